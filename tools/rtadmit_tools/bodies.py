@@ -1,6 +1,6 @@
 """Wrong bodies of different functions in one check: which functions each changes, sources that hold many, and what a check says."""
 import re
-from dataclasses import dataclass
+from collections import namedtuple
 
 from .sources import pieces
 
@@ -34,12 +34,8 @@ def has(function, symbol):
     return bool(re.fullmatch(rf"{re.escape(front)}(?:fn::)?{around}{re.escape(function.name)}(?:::.*)?", symbol))
 
 
-@dataclass(frozen=True)
-class Body:
+class Body(namedtuple("Body", "name changes")):
     """A change of bodies alone: for each file the places of its pieces, with the new ones."""
-
-    name: str
-    changes: dict
 
     def functions(self):
         return [piece.function for places in self.changes.values() for piece in places.values()]
@@ -61,7 +57,6 @@ def body_of(name, sources, texts):
 
 
 def rounds(some, most):
-    """Bodies in lists of at most so many, of which no two change one function."""
     lists = []
     for it in some:
         takes = it.takes()

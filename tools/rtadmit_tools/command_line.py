@@ -1,8 +1,9 @@
 """The command line of tools/host and tools/gate: one way to take words, to refuse, to show progress and to end.
 
 A verb is a module of rtadmit_tools.host or rtadmit_tools.gate, with _ for each - of its name. Its docstring is its help, and begins with
-a line that says what it does. It has `add_words(parser)` and `run(given)`, which answers a status, a text that is printed, or both as a
-pair; no answer is status 0. Where its help tells another status for a refusal than 1, it has that as REFUSED."""
+a line that says what it does. It has `run(given)`, which answers a status, a text that is printed, or both as a pair; no answer is
+status 0. Where it takes words it has `add_words(parser)`, and what `given.refuse(cause)` tells is behind its usage. Where its help tells
+another status for a refusal than 1, it has that as REFUSED."""
 import argparse
 import importlib
 import os
@@ -23,8 +24,6 @@ class Refused(Exception):
 
 
 class WrongWords(Refused):
-    """The words of a verb are none that it takes."""
-
     def __init__(self, cause):
         super().__init__(None, None, cause)
 
@@ -45,7 +44,6 @@ def verbs(kind):
 
 
 def overview(kind):
-    """The help of an entry point."""
     package = importlib.import_module(f"rtadmit_tools.{kind}")
     lines = [f"    {verb:<18}{told}" for verb, told in verbs(kind).items()]
     return "\n".join([f"tools/{kind} VERB WORDS", "", package.__doc__, "", *lines, "", f"tools/{kind} VERB --help says more of one.", ""])
@@ -53,9 +51,11 @@ def overview(kind):
 
 def parser_of(kind, verb, module):
     parser = argparse.ArgumentParser(
-        prog=f"tools/{kind} {verb}", description=module.__doc__, formatter_class=argparse.RawDescriptionHelpFormatter
+        prog=f"tools/{kind} {verb}", description=module.__doc__, formatter_class=argparse.RawDescriptionHelpFormatter,
+        epilog=f"Where it refuses, the status is {getattr(module, 'REFUSED', 1)}, with the cause on standard error; for wrong words 2.",
     )
-    module.add_words(parser)
+    parser.set_defaults(refuse=parser.error)
+    getattr(module, "add_words", lambda parser: None)(parser)
     return parser
 
 

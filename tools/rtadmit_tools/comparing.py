@@ -131,7 +131,6 @@ def compare(given, what, look, inputs, least=None, heavy=False, shows=True):
 
 
 def add_words(parser):
-    """The words of a verb that compares."""
     add_program(parser)
     parser.add_argument("--keep", metavar="FOLDER", help="where something does not hold, the files of that input are kept there")
 

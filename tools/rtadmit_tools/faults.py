@@ -12,7 +12,7 @@ import math
 import pathlib
 import re
 import tomllib
-from dataclasses import dataclass
+from collections import namedtuple
 
 from .command_line import TOP, Refused
 from .formulas import SCHEDS
@@ -24,19 +24,11 @@ KINDS = {key: kind for kind, keys in ((str, "name parent sched"), (bool, "extra"
 CALLED = {str: "text", bool: "a truth value", int: "a whole number", float: "a number with a point", list: "an array", dict: "a table"}
 
 
-@dataclass
-class Found:
-    """A fault that stands in a file: its word, the key or field, and what is wrong, with the line where the file as such tells none."""
-
-    word: str
-    key: str | None
-    cause: str
-    line: int | None = None
+# a fault that stands in a file: its word, the key or field, and what is wrong, with the line where the file as such tells none
+Found = namedtuple("Found", "word key cause line", defaults=[None])
 
 
 # The rules of the pages
-
-
 @functools.cache
 def rows_of(page, heading):
     """The rows of the tables under a heading of a page, each as its cells without marks."""
@@ -46,7 +38,6 @@ def rows_of(page, heading):
 
 
 def rule_of(page, heading, word):
-    """What the page says behind a word, or nothing."""
     told = [cells[cells.index(word) + 1] for cells in rows_of(page, heading) if word in cells[:-1]]
     return "; or ".join(dict.fromkeys(told))
 
@@ -65,8 +56,6 @@ def keys_of(spot):
 
 
 # A system file
-
-
 def shown(value):
     told = json.dumps(value) if isinstance(value, (str, bool)) else str(value)
     return told if isinstance(value, (str, int, float)) else CALLED.get(type(value), "a time")
@@ -175,7 +164,6 @@ def text_fault(data):
 
 
 def of_system(path, word, spot, core):
-    """What is told of a fault of a system file."""
     data, rule = pathlib.Path(path).read_bytes(), rule_of("formats.md", "Faults of a system file", word)
     if word == "NotToml":
         found = text_fault(data)
@@ -193,15 +181,10 @@ def of_system(path, word, spot, core):
     else:
         candidates = faults_of_table(spot, tables[spot], tree) if spot in tables else ()
         found = next((found for found in candidates if found.word == word), None)
-    key, name = found and found.key, listed_name(tables.get(spot))
-    own = keys_of(spot).get(key)
-    where = f"{spot}, {name}" if name else "the top table" if spot == "top" else spot
+    key, table = found and found.key, tables.get(spot)
+    name, own = table.get("name") if isinstance(table, dict) else None, keys_of(spot).get(key)
+    where = f"{spot}, {name}" if name and isinstance(name, str) else "the top table" if spot == "top" else spot
     return told(path, where, found, f"{key}: {own}" if own else f"{word}: {rule}", Places(text).line(spot, key))
-
-
-def listed_name(table):
-    name = table.get("name") if isinstance(table, dict) else None
-    return name if isinstance(name, str) else None
 
 
 def told(path, where, found, rule, line):
@@ -212,18 +195,11 @@ def told(path, where, found, rule, line):
 
 
 # A second file of rows
-
-
 PLAIN = re.compile("0|[1-9][0-9]*")
 
 
-class Row:
+class Row(namedtuple("Row", "line fields keys")):
     """A row of a file of comma-separated values: its line, and its fields by the keys of the header."""
-
-    __slots__ = ("line", "fields", "keys")
-
-    def __init__(self, line, fields, keys):
-        self.line, self.fields, self.keys = line, fields, keys
 
     def __getattr__(self, key):
         return dict(zip(self.keys, self.fields)).get(key, "")
@@ -286,8 +262,6 @@ class Rows:
 
 
 class Trace(Rows):
-    """A trace, as `audit` reads it."""
-
     heads, heading, words = ("at,core,what,vcpu", "at_ns,core,what,vcpu"), "Faults of a trace", ("audit",)
     FILLED = {"start": "core vcpu", "wake": "core vcpu", "block": "core vcpu", "run": "core vcpu", "stop": "core", "end": ""}
 
@@ -333,8 +307,6 @@ class Trace(Rows):
 
 
 class Workload(Rows):
-    """A workload, as `rtds` reads it."""
-
     heads, heading, words = ("at,vcpu,what",), "Workload file", ("rtds", 1)
 
     def faults_of_row(self, row):
@@ -351,8 +323,6 @@ class Workload(Rows):
 
 
 class Releases(Rows):
-    """A release file, as `simulate` reads it."""
-
     heads, heading, words = ("at,part,task,work", "at,part,task,work,early"), "Release file", ("simulate", "early", 1)
 
     def faults_of_row(self, row):
@@ -376,8 +346,6 @@ class Releases(Rows):
 
 
 class Script(Rows):
-    """A script, as `session` reads it."""
-
     heads, heading, words = ("op,part,parent,sched,period,budget,tasks",), "Script file", ("session",)
     FREE = {"add": {"parent", "budget", "tasks"}, "change": {"budget", "tasks"}, "remove": set()}
     EMPTY = {"add": set(), "change": {"parent"}, "remove": {"parent", "sched", "period", "budget", "tasks"}}
@@ -443,15 +411,11 @@ class Guests(Script):
 
 
 # A certificate
-
-
 class Number(str):
     """A number of a JSON text, as it is spelled."""
 
 
 class Certificate:
-    """A certificate, as `check` reads it."""
-
     heads, words = ("{",), ("check",)
     KEYS = {
         "budget": ("number", 64), "computed": ("truth",), "falls": ("list of number", 64), "hits": ("list of number", 64),
@@ -519,8 +483,6 @@ class Certificate:
 
 
 # The words
-
-
 KINDS_OF_SECOND = {
     "trace": Trace, "workload": Workload, "releases": Releases, "script": Script, "guests": Guests, "certificate": Certificate,
 }
@@ -544,7 +506,6 @@ def words_of(kind, file, second):
 
 
 def of_second(path, second, kind, word, number):
-    """What is told of a fault of a second file."""
     text = pathlib.Path(second).read_bytes().decode(errors="surrogateescape")
     if kind == "certificate":
         found = next((found for found in Certificate(text).faults() if found.word == word), None)

@@ -1,18 +1,11 @@
 """The formulas of docs/use/certificate.md: what tasks ask for in a window, and what a budget gives."""
-from dataclasses import dataclass
+from collections import namedtuple
 
 MOST_STEPS = 20_000
 SCHEDS = {"edf": "earliest deadline first", "rm": "rate monotonic", "dm": "deadline monotonic", "listed": "in the order of the file"}
 
 
-@dataclass
-class Task:
-    name: str
-    period: int
-    deadline: int
-    work: int
-    jitter: int
-
+class Task(namedtuple("Task", "name period deadline work jitter")):
     @property
     def room(self):
         return self.deadline - self.jitter

@@ -1,18 +1,13 @@
 """A page of HTML that needs nothing else: its style, tables, sections, bars and pictures."""
 import pathlib
 import re
-from dataclasses import dataclass
+from collections import namedtuple
 from html import escape
 
 STYLE = pathlib.Path(__file__).with_name("page.css").read_text()
 
-@dataclass
-class Cell:
-    """The text of a cell, as HTML, and how it is marked."""
 
-    text: str
-    mark: str = ""
-
+class Cell(namedtuple("Cell", "text mark", defaults=[""])):
     def of(self, column):
         mark = f' class="{self.mark}"' if self.mark else ""
         return f'<td{mark} data-of="{escape(column)}"><span>{self.text}</span></td>'

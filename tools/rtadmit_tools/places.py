@@ -85,7 +85,6 @@ def rewritten(text, old, new):
 
 
 def is_spelled(text, tree):
-    """Whether a text spells these tables."""
     try:
         return tomllib.loads(text.removeprefix("\ufeff")) == tree
     except ValueError:

@@ -3,7 +3,7 @@ import os
 import re
 import shlex
 import subprocess
-from dataclasses import dataclass
+from collections import namedtuple
 
 from .command_line import TOP, Refused
 
@@ -37,12 +37,8 @@ def line_object(line):
     return {"kind": kind, **told, **dict(zip(ALONE[kind], alone)), **{key: value_of(value) for key, value in pairs}}
 
 
-@dataclass
-class Answer:
+class Answer(namedtuple("Answer", "status text")):
     """What the program printed, and its status."""
-
-    status: int
-    text: str
 
     @property
     def lines(self):
@@ -71,8 +67,6 @@ class Answer:
 
 
 class Program:
-    """A program of rtadmit's words."""
-
     def __init__(self, words):
         self.words, self.asked = words, 0
 
@@ -106,9 +100,8 @@ def built_program():
 
 
 def add_program(parser):
-    parser.add_argument(
-        "--program", metavar="WORDS", help="the program to ask; where none is named, the one that RTADMIT names, or else the proved one of this folder"
-    )
+    told = "the program to ask; where none is named, the one that RTADMIT names, or else the proved one of this folder"
+    parser.add_argument("--program", metavar="WORDS", help=told)
 
 
 def program_of(words=None):

@@ -11,11 +11,13 @@ import signal
 import sys
 import tarfile
 import tempfile
-from dataclasses import dataclass
+from collections import namedtuple
 
 from .command_line import TOP, Refused
 from .program import built_program, is_built
 
+# the last line of what a gate printed into a file: the sum of the program that it left, the commit, and the logic that proved it
+Gate = namedtuple("Gate", "path line sum commit logic")
 FIRST_FORM = re.compile(r"program sha256=[0-9a-f]{64} commit=[0-9a-f]{40,64}(\+changes)?")
 GATE_LINE = re.compile(r"program sha256=([0-9a-f]{64}) commit=([0-9a-f]{40,64})(\+changes)? logic=([0-9a-f]{16})")
 UNPROVED = " unproved"
@@ -27,19 +29,6 @@ def sum_of(path):
 
 
 # The gate
-
-
-@dataclass
-class Gate:
-    """The last line of what a gate printed into a file: the sum of the program that it left, the commit, and the logic that proved it."""
-
-    path: str
-    line: str
-    sum: str
-    commit: str
-    logic: str
-
-
 def gate_of(path):
     """The last line of what a gate printed. Refused where it tells no program."""
     lines = pathlib.Path(path).read_text(errors="replace").rstrip().split("\n")
@@ -53,16 +42,9 @@ def gate_of(path):
     return Gate(str(path), lines[-1], found[1], found[2], found[4])
 
 
-@dataclass
-class Origin:
+class Origin(namedtuple("Origin", "path sum version gate is_asked_for")):
     """What a program is: its sum, the answer of its `version`, the gate that left it, as far as one is known, and whether one that no gate
     left was asked for."""
-
-    path: str
-    sum: str
-    version: str
-    gate: Gate | None
-    is_asked_for: bool
 
     @property
     def is_unproved(self):
@@ -110,15 +92,12 @@ def origin_of(program, gate, unproved):
 
 
 # The folder and its archive
-
-
 def end_by_signal():
     """Lets a folder that is being made go where its maker is told to end."""
     signal.signal(signal.SIGTERM, lambda *_: sys.exit(128 + signal.SIGTERM))
 
 
 def entry_of(packed, path, name, moment):
-    """The entry of a file or folder in an archive, without anything of who made it and when."""
     entry = packed.gettarinfo(path, name)
     entry.uid = entry.gid = 0
     entry.uname = entry.gname = ""

@@ -1,6 +1,6 @@
 """How the checks of sources read a repository: the files of its crates, definitions, functions as `rt fmt` lays them out, pages."""
 import re
-from dataclasses import dataclass
+from collections import namedtuple
 
 from . import command_line
 
@@ -15,14 +15,7 @@ NO_CODE = re.compile(r"\s*(?:invariant|decreases|requires|ensures|measure|prove!
 CLAUSE = re.compile(r" *(?:requires|ensures|ghost)\b")
 
 
-@dataclass
-class File:
-    """A file of a crate: its path below the top, its module and its text."""
-
-    path: object
-    module: str
-    text: str
-
+class File(namedtuple("File", "path module text")):
     @property
     def lines(self):
         return self.text.split("\n")
@@ -50,7 +43,6 @@ def part_of(text, head):
 
 
 def told(lines):
-    """What a check says, and its status: 1 where it says something."""
     return "".join(f"{line}\n" for line in lines), int(bool(lines))
 
 
@@ -85,24 +77,12 @@ def used_crates():
     return found
 
 
-@dataclass(frozen=True)
-class Function:
-    """A function: its module's path, the type or the trait around it, the trait on that type, its name, and whether it is public."""
-
-    module: str
-    owner: str
-    trait: str | None
-    name: str
-    is_public: bool
+# a function: its module's path, the type or the trait around it, the trait on that type, its name, and whether it is public
+Function = namedtuple("Function", "module owner trait name is_public")
 
 
-@dataclass(frozen=True)
-class Piece:
+class Piece(namedtuple("Piece", "function head body", defaults=[()])):
     """Some lines of a source: the head and the body of a function, or, of what stands between functions, a head alone."""
-
-    function: Function | None
-    head: tuple
-    body: tuple = ()
 
     @property
     def lines(self):

@@ -1,4 +1,5 @@
 """Pictures as texts of SVG: elements, round scales, and the whole text."""
+import itertools
 from xml.sax.saxutils import escape
 
 INK, GREY, FAINT = "#222222", "#666666", "#dddddd"
@@ -6,16 +7,11 @@ INK, GREY, FAINT = "#222222", "#666666", "#dddddd"
 
 def step_of(length, most):
     """A round distance of the scale's marks, of which at most so many fit into a length."""
-    step = 1
-    while True:
-        for factor in (1, 2, 5):
-            if length <= most * step * factor:
-                return step * factor
-        step *= 10
+    steps = (factor * 10**power for power in itertools.count() for factor in (1, 2, 5))
+    return next(step for step in steps if length <= most * step)
 
 
 def marks(first, last, most):
-    """Round numbers from the first to the last, at most so many."""
     step = step_of(last - first, max(1, most))
     return range(-(-first // step) * step, last + 1, step)
 
@@ -29,7 +25,8 @@ class Canvas:
     def text(self, x, y, text, anchor="start", fill=INK, size=12, more=""):
         if anchor == "start":
             self.reach = max(self.reach, x + size * sum(1 if letter in "MWmw" else 0.64 for letter in text))
-        self.lines.append(f'<text x="{x:.2f}" y="{y:g}" text-anchor="{anchor}" fill="{fill}" font-size="{size}" {more}>{escape(text)}</text>')
+        place = f'x="{x:.2f}" y="{y:g}" text-anchor="{anchor}"'
+        self.lines.append(f'<text {place} fill="{fill}" font-size="{size}" {more}>{escape(text)}</text>')
 
     def line(self, x1, y1, x2, y2, stroke, width=1, more=""):
         self.lines.append(f'<line x1="{x1:.2f}" y1="{y1:g}" x2="{x2:.2f}" y2="{y2:g}" stroke="{stroke}" stroke-width="{width}" {more}/>')
@@ -40,14 +37,21 @@ class Canvas:
     def circle(self, x, y, radius, fill, more=""):
         self.lines.append(f'<circle cx="{x:.2f}" cy="{y:.2f}" r="{radius}" fill="{fill}" {more}/>')
 
+    def ring(self, x, y, colour):
+        self.circle(x, y, 4.5, "white", f'stroke="{colour}" stroke-width="2"')
+
+    def title(self, name, about):
+        self.text(12, 24, name, size=16, more='font-weight="bold" font-family="monospace"')
+        self.text(12, 44, about, fill=GREY)
+
     def path(self, told, more):
         self.lines.append(f'<path d="{told}" {more}/>')
 
     def whole(self, width, height, front=""):
         """The text of the picture; `front` stands behind its head, for patterns."""
-        head = f'<svg xmlns="http://www.w3.org/2000/svg" width="{width}" height="{height}" viewBox="0 0 {width} {height}" font-family="sans-serif">'
-        ground = f'<rect width="{width}" height="{height}" fill="white"/>'
-        return "\n".join([head, *[front] * bool(front), ground, *self.lines, "</svg>", ""])
+        size = f'width="{width}" height="{height}"'
+        head = f'<svg xmlns="http://www.w3.org/2000/svg" {size} viewBox="0 0 {width} {height}" font-family="sans-serif">'
+        return "\n".join([head, *[front] * bool(front), f'<rect {size} fill="white"/>', *self.lines, "</svg>", ""])
 
 
 class Plot:
@@ -57,17 +61,10 @@ class Plot:
 
     def __init__(self, canvas, left, top, width, height, across, up):
         self.canvas, self.left, self.top, self.width, self.height = canvas, left, top, width, height
-        self.begin, self.end = across
-        self.low, self.high = up
-
-    @property
-    def bottom(self):
-        return self.top + self.height
-
-    @property
-    def right(self):
-        """Where the picture ends, so that its last mark fits."""
-        return self.left + self.width + max(28, 4 * len(str(self.end)) + 8)
+        (self.begin, self.end), (self.low, self.high) = across, up
+        self.bottom = top + height
+        # where the picture ends, so that its last mark fits
+        self.right = left + width + max(28, 4 * len(str(self.end)) + 8)
 
     def x(self, value):
         return self.left + self.width * (value - self.begin) / (self.end - self.begin)

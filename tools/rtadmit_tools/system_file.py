@@ -2,18 +2,26 @@
 import copy
 import pathlib
 import re
+import textwrap
 import tomllib
-from dataclasses import dataclass, field
+from collections import namedtuple
 
 from .command_line import Refused
 from .formulas import SCHEDS, task_of
 
+# a core or a part: its supply, and what it serves in which order; a core without a supply has every slot
+Node = namedtuple("Node", "kind name sched period budget parent extra tasks children", defaults=[None, False, (), ()])
+# a part on a core of an admitted file, with its budget and the line of its name
+Server = namedtuple("Server", "name core period budget extra line")
 LIMIT = 1_000_000_000
 NAME = re.compile(r"[A-Za-z][A-Za-z0-9_-]{0,31}")
 CHANGE = re.compile(r"([^.=]+)\.(?:(period|budget|parent|sched)|([^.=]+)\.(work))=([^.=]+)")
 KEYS = {"core": ("name", "sched", "supply_period", "supply_budget"), "part": ("name", "parent", "sched", "period", "budget", "extra")}
 TASK_KEYS = ("name", "period", "deadline", "jitter", "work")
 
+HEAD = """All times are microseconds. What {} does not know is open: `rtadmit admit` refuses this file until each part has its sched and a
+task. Leave the budget of a part out, and the program computes the least that is enough for the tasks that you wrote down. Keep that of a
+stand-in: its task is invented."""
 OPEN = """\
 # open: write what is below without the #, and a [[part.task]] for each thread with a deadline
 # sched = "edf"        # how the guest orders them: edf, rm, dm or listed (docs/use/guide.md)
@@ -33,21 +41,6 @@ work = 1
 """
 
 
-@dataclass
-class Node:
-    """A core or a part: its supply, and what it serves in which order. A core without a supply has every slot."""
-
-    kind: str
-    name: str
-    sched: str
-    period: int
-    budget: int | None
-    parent: str | None = None
-    extra: bool = False
-    tasks: list = field(default_factory=list)
-    children: list = field(default_factory=list)
-
-
 class System:
     """A system file as tables, and its nodes by name: the cores and then the parts, in file order."""
 
@@ -56,11 +49,10 @@ class System:
         try:
             for core in tree["core"]:
                 period, budget = core.get("supply_period", 1), core.get("supply_budget", 1)
-                self.nodes[core["name"]] = Node("core", core["name"], core["sched"], period, budget)
+                self.nodes[core["name"]] = Node("core", core["name"], core["sched"], period, budget, children=[])
             for part in tree.get("part", []):
-                tasks = [task_of(table) for table in part.get("task", [])]
-                extra = part.get("extra", False)
-                node = Node("part", part["name"], part["sched"], part["period"], part.get("budget"), part["parent"], extra, tasks)
+                tasks, supply = list(map(task_of, part.get("task", []))), (part["period"], part.get("budget"))
+                node = Node("part", part["name"], part["sched"], *supply, part["parent"], part.get("extra", False), tasks, [])
                 self.nodes[node.name] = node
                 self.nodes[node.parent].children.append(node.name)
         except (KeyError, TypeError, AttributeError) as fault:
@@ -78,11 +70,10 @@ class System:
 
     def below(self, name):
         """The names of all parts that stand on a node, directly or not, in file order."""
-        found = {name}
+        found = [name]
         for part in self.parts():
-            if part.parent in found:
-                found.add(part.name)
-        return [part.name for part in self.parts() if part.name in found and part.name != name]
+            found += [part.name] * (part.parent in found)
+        return found[1:]
 
     def root(self, name):
         """The core on which a node stands, or that it is."""
@@ -132,7 +123,6 @@ class System:
 
 
 def tree_text(tree):
-    """The tables of a system as the text of a system file."""
     told = [f"format = {tree['format']}"]
     for kind, keys in KEYS.items():
         for table in tree.get(kind, []):
@@ -143,7 +133,6 @@ def tree_text(tree):
 
 
 def pairs_of(table, keys):
-    """The lines of a table's keys."""
     for key in keys:
         value = table.get(key)
         if value is not None:
@@ -188,12 +177,6 @@ def lines_of(path):
 
 
 # The text of a new file
-
-
-def core_text(name):
-    return f'[[core]]\nname = "{name}"\nsched = "edf"\n'
-
-
 def part_text(about, name, core, period, budget, extra=False, stand_in=False):
     """A server on a core. What runs in it is left open, or one slot a second stands for it."""
     sched = 'sched = "edf"\n' if stand_in else ""
@@ -204,46 +187,24 @@ def part_text(about, name, core, period, budget, extra=False, stand_in=False):
     )
 
 
-def system_text(head, cores, parts):
-    """The whole file: what is said first, the names of the cores, and the texts of the parts."""
+def system_text(about, host, more, processors, parts):
+    """The whole file: what it is, what leaves things open, other lines of its head, a core for each processor, and the parts."""
+    head = [*textwrap.wrap(f"{about}. {HEAD.format(host)}", 132), *more]
     told = "".join(f"# {line}\n" for line in head)
-    return "\n".join([f"{told}format = 2\n", *map(core_text, cores), *parts])
+    cores = [f'[[core]]\nname = "cpu{processor}"\nsched = "edf"\n' for processor in sorted(set(processors))]
+    return "\n".join([f"{told}format = 2\n", *cores, *parts])
 
 
 # The budgets of an admitted file
-
-
-@dataclass
-class Server:
-    """A part on a core of an admitted file, with its budget and the line of its name."""
-
-    name: str
-    core: str
-    period: int
-    budget: int
-    extra: bool
-    line: int | None
-
-
-@dataclass
-class Admitted:
-    """The cores of an admitted file, as they stand in it, the servers on them, in its order, and its text."""
-
-    cores: list
-    servers: list
-    text: str
-
-
 def line_of(text, name):
     """The line on which a name is given, as far as it stands on one of its own."""
-    for line, told in enumerate(text.splitlines(), 1):
-        if re.match(rf"\s*name\s*=\s*[\"']{re.escape(name)}[\"']", told):
-            return line
-    return None
+    form = re.compile(rf"\s*name\s*=\s*[\"']{re.escape(name)}[\"']")
+    return next((line for line, told in enumerate(text.splitlines(), 1) if form.match(told)), None)
 
 
-def admitted(path, program):
-    """The servers of a system file with the budgets that the program tells. Refused where it does not admit the file."""
+def admitted(path, program, whose):
+    """The names of the cores of an admitted file, the servers on them, and its text. Refused where the program does not admit it, and where
+    a core is not a whole processor under edf, as the host has it that is told."""
     text = pathlib.Path(path).read_text(errors="surrogateescape")
     answer = program.ask("admit", path)
     if answer.status != 0:
@@ -251,17 +212,12 @@ def admitted(path, program):
         raise Refused(path, None, f"not admitted, so there is nothing to set: status {answer.status}, {told or 'no text'}")
     if not answer.is_yes:
         raise Refused(program.path, None, "this program does not answer as rtadmit does")
-    tree, budgets = read_system(path).tree, answer.budgets()
-    cores = [core["name"] for core in tree["core"]]
-    servers = [
-        Server(part["name"], part["parent"], part["period"], budgets[part["name"]][0], part.get("extra", False), line_of(text, part["name"]))
-        for part in tree.get("part", []) if part["parent"] in cores
-    ]
-    return Admitted(tree["core"], servers, text)
-
-
-def need_full(path, cores, whose):
-    """Refuses a core that is not served as the host serves its processors."""
-    for core in cores:
+    system, budgets = read_system(path), answer.budgets()
+    for core in system.tree["core"]:
         if core["sched"] != "edf" or "supply_period" in core:
             raise Refused(path, None, f"{core['name']} is not a whole processor under edf, as {whose} has it")
+    cores = [core.name for core in system.cores()]
+    return cores, [
+        Server(part.name, part.parent, part.period, budgets[part.name][0], part.extra, line_of(text, part.name))
+        for part in system.parts() if part.parent in cores
+    ], text

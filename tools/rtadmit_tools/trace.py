@@ -2,6 +2,7 @@
 import csv
 import functools
 import math
+from collections import namedtuple
 from dataclasses import dataclass, field
 
 from .command_line import Refused
@@ -30,8 +31,6 @@ def lines_of(path, file):
 
 
 # A host, as the rows so far leave it
-
-
 @dataclass(eq=False)
 class Core:
     name: str
@@ -79,16 +78,8 @@ class Host:
 
 
 # The rows
-
-
-@dataclass(slots=True)
-class Row:
-    """What a row says behind its moment. Where it breaks a rule by that alone, `fault` tells so."""
-
-    what: str
-    core: Core | None
-    vcpu: Vcpu | None
-    fault: str | None = None
+# what a row says behind its moment; where it breaks a rule by that alone, `fault` tells so
+Row = namedtuple("Row", "what core vcpu fault", defaults=[None])
 
 
 class Reader:
@@ -174,7 +165,6 @@ class Reader:
 
     @staticmethod
     def breach(row):
-        """The rule on what it does that a row breaks, or None."""
         what, vcpu = row.what, row.vcpu
         if what == "end":
             return None
@@ -214,15 +204,8 @@ def spans(reader, host, horizon=math.inf):
 
 
 # Periods
-
-
-@dataclass
-class Server:
-    """What a system file gives a VCPU, in the unit of a trace; the budget may not be known."""
-
-    period: int
-    budget: int | None
-    extra: bool = False
+# what a system file gives a VCPU, in the unit of a trace; the budget may not be known
+Server = namedtuple("Server", "period budget extra", defaults=[False])
 
 
 def parts_of(path):

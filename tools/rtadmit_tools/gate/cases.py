@@ -15,47 +15,31 @@ In each run the file NAME is the front, the row's text and the back. A row may b
 runs with them, and a table of words alone has neither args nor "file". PRINTED and STATUS may be left out of rows where the table has
 them, as "printed" and "status". Each row counts as a case.
 
-What is printed and the status come from the rules, by hand, and never from a run of the program. Each case runs in a fresh folder
-with copies of its files, with nothing on standard input; several run side by side. Nothing may come on standard error. A NAME is
-COMMAND/CASE, or COMMAND for all of its cases; the cases are all where none is named. Each case that differs is told with what differs,
-and the last line counts them. Ends with 1 where one differs, where a case lacks its words or its text, where there is no case, and where
-a folder cases/ stands at the top, of which none would run."""
+What is printed and the status come from the rules, by hand, and never from a run of the program. Nothing may come on standard error. A NAME
+is COMMAND/CASE, or COMMAND for all of its cases. Ends with 1 where a case differs, lacks its words or its text, where there is no case, and
+where a folder cases/ stands at the top, of which none would run."""
 import difflib
 import json
-import pathlib
 import shutil
-from dataclasses import dataclass, field
+from collections import namedtuple
 
 from .. import comparing
 from ..command_line import TOP, Refused
 from ..comparing import Broken, compare, need
 
+# the words, the content of the files that are no copies, what is printed, and the status; or why there is no such run
+Run = namedtuple("Run", "name case words own printed status fault", defaults=[(), {}, b"", 0, None])
 CASES, FORMER = TOP / "tests/cases", TOP / "cases"
 OWN = ("args", "stdout", "status", "rows.json")
 TABLE = {"file", "front", "back", "printed", "status", "rows"}
 
 
-@dataclass
-class Run:
-    """The words, the content of the files that are no copies, what is printed, and the status; or why there is no such run."""
-
-    name: str
-    case: pathlib.Path
-    words: list = field(default_factory=list)
-    own: dict = field(default_factory=dict)
-    printed: bytes = b""
-    status: int = 0
-    fault: Broken | None = None
-
-
 def status_of(said):
-    """The status that a text or a number says."""
     need(str(said).isascii() and str(said).isdigit() and int(said) < 256, f"its status is no number below 256: {said!r}")
     return int(said)
 
 
 def rows_of(name, case, args):
-    """The runs of a table."""
     try:
         table = json.loads((case / "rows.json").read_text())
         for number, (told, *rest) in enumerate(table["rows"], 1):
@@ -71,7 +55,6 @@ def rows_of(name, case, args):
 
 
 def read_case(name, case):
-    """The runs of a case."""
     has = {path.name for path in case.iterdir()}
     if "rows.json" in has:
         need(not has & {"stdout", "status"}, "it has rows.json and what is printed beside it")

@@ -23,71 +23,60 @@ ANSWERS += [f"fault={word}" for word in ("NotJson", "WrongShape", "BadNumber", "
 LONGEST, BY_COMMAND = 8_000, 40
 
 
-# Systems, as lists of tables: each the line that begins it, and its keys with their values
-
-
+# Systems
 def draw_task(chance, number, server_period, share):
     """A task that asks for about a share of the processor."""
     period = server_period * chance.randint(2, 6) + chance.choice([0, 0, 1, server_period // 2])
     work = max(1, int(period * share))
     deadline = period if chance.random() < 0.5 else chance.randint(max(work, period // 2), period)
     jitter = chance.randint(0, min(deadline - work, server_period)) if chance.random() < 0.4 else 0
-    return ["[[part.task]]", {"name": f"t{number}", "period": period, "deadline": deadline, "jitter": jitter, "work": work}]
+    return task(f"t{number}", period, work, deadline=deadline, jitter=jitter)
 
 
 def draw_leaf(chance, name, parent, period):
-    keys = {"name": name, "parent": parent, "sched": chance.choice(SCHEDS), "period": period}
-    keys |= {"budget": chance.randint(period // 2, period)} if chance.random() < 0.3 else {}
+    sched, budget = chance.choice(SCHEDS), chance.randint(period // 2, period) if chance.random() < 0.3 else None
     count = chance.randint(1, 4)
-    return [["[[part]]", keys], *(draw_task(chance, number, period, 0.25 / count) for number in range(count))]
+    return part(name, parent, sched, period, budget, [draw_task(chance, number, period, 0.25 / count) for number in range(count)])
 
 
 def draw_system(chance):
-    tables, parts, cores = [], [], chance.randint(1, 2)
-    for number in range(cores):
-        tables.append(["[[core]]", {"name": f"cpu{number}", "sched": chance.choice(SCHEDS)}])
+    cores, parts = [core(f"cpu{number}", chance.choice(SCHEDS)) for number in range(chance.randint(1, 2))], []
+    for table in cores:
         if chance.random() < 0.3:
             period = chance.randint(1, 6)
-            tables[-1][1] |= {"supply_period": period, "supply_budget": chance.randint(max(1, period - 1), period)}
+            table |= {"supply_period": period, "supply_budget": chance.randint(max(1, period - 1), period)}
     for number in range(chance.randint(1, 3)):
-        parent, period = f"cpu{chance.randrange(cores)}", chance.randint(3, 12)
+        parent, period = chance.choice(cores)["name"], chance.randint(3, 12)
         if chance.random() < 0.4:
-            inner = {"name": f"inner{number}", "parent": parent, "sched": chance.choice(SCHEDS), "period": chance.randint(2, 5)}
-            if chance.random() < 0.4:
-                inner["budget"] = chance.randint(1, inner["period"])
-            parts.append(["[[part]]", inner])
-            parent = inner["name"]
-        parts += draw_leaf(chance, f"leaf{number}", parent, period)
-    return tables + parts
+            inner = chance.randint(2, 5)
+            budget = chance.randint(1, inner) if chance.random() < 0.4 else None
+            parts.append(part(f"inner{number}", parent, chance.choice(SCHEDS), inner, budget))
+            parent = parts[-1]["name"]
+        parts.append(draw_leaf(chance, f"leaf{number}", parent, period))
+    return tree(cores, parts)
 
 
-def spell(tables):
-    """The system file of tables."""
-    lines = ["format = 2"]
-    for head, keys in tables:
-        lines += [head, *(f"{key} = {json.dumps(value)}" for key, value in keys.items())]
-    return "\n".join(lines + [""]).encode()
+def spell(system):
+    return tree_text(system).encode()
 
 
-def changed_system(chance, tables):
+def changed_system(chance, system):
     """A neighbour: one value of one table is another."""
-    tables = copy.deepcopy(tables)
-    head, keys = chance.choice(tables)
-    key = chance.choice(list(keys))
-    if isinstance(keys[key], int):
-        keys[key] += chance.choice([-1, 1, 1])
+    system = copy.deepcopy(system)
+    table = chance.choice([*system["core"], *(table for leaf in system["part"] for table in (leaf, *leaf["task"]))])
+    key = chance.choice([key for key, value in table.items() if key != "task" and value is not None])
+    if isinstance(table[key], int):
+        table[key] += chance.choice([-1, 1, 1])
     elif key == "sched":
-        keys[key] = chance.choice(SCHEDS)
+        table[key] = chance.choice(SCHEDS)
     elif chance.random() < 0.5:
-        del keys[key]
+        table[key] = None
     else:
-        keys[key] = chance.choice(["", "other", 1, "a" * 33])
-    return spell(tables)
+        table[key] = chance.choice(["", "other", 1, "a" * 33])
+    return spell(system)
 
 
 # Certificates
-
-
 def text_of(value):
     return json.dumps(value, separators=(",", ":")).encode()
 
@@ -214,7 +203,6 @@ def certificate_of(*nodes, format=1):
 
 
 def of_deadlines():
-    """Under earliest deadline first."""
     file = with_leaf("edf", 10, None, (50, 50, 0, 7))
     leaf = dict(NODE, kind="part", computed=True, budget=2, period=10, witness="50")
     for points in (["44", "94", "144", "194"], ["0", "44", "94"], [MOST], ["44", MOST], [], ["44", "94", MOST]):
@@ -293,18 +281,16 @@ def at_limits():
 
 
 # The comparison
-
-
 def pairs(program, chance, count):
     """At least so many pairs of a system and a certificate: those at the limits, and then those of systems that are drawn."""
     made = list(at_limits())
     while len(made) < count:
-        tables = draw_system(chance)
-        told = program.ask("certify", "/dev/stdin", text=spell(tables).decode())
+        system = draw_system(chance)
+        told = program.ask("certify", "/dev/stdin", text=tree_text(system))
         if told.status == 0 and len(told.text) <= LONGEST:
             certificate = told.text.encode()
-            made += [(spell(tables), text) for text in spoilt(chance, certificate)]
-            made += [(changed_system(chance, tables), certificate) for _ in range(3)]
+            made += [(spell(system), text) for text in spoilt(chance, certificate)]
+            made += [(changed_system(chance, system), certificate) for _ in range(3)]
     return made
 
 

@@ -2,8 +2,8 @@
 
 Below "Proved", each name in backquotes is a function, a type, a trait or a ghost item of some crate, a definition of some specs/, or the
 label of an `ensures`; a label has to be one of the crate, and of the functions of it that its entry names, where it names one. And each
-function that a crate hands out has to be named there. Of docs/proof/claims.md the same for the rows that begin with a command. The status is 1
-where something is wrong."""
+function that a crate hands out has to be named there. Of docs/proof/claims.md the same for the rows that begin with a command.
+Ends with 1 where something is wrong."""
 import re
 
 from .. import sources
@@ -37,7 +37,6 @@ def unknown(entry, labels, anywhere):
 
 
 def of_crate(crate, labels, anywhere):
-    """What is wrong with the page of a crate."""
     name = f"crates/{crate}/README.md"
     if not (sources.TOP / name).exists():
         return [f"{crate} has no README.md"]
@@ -49,15 +48,10 @@ def of_crate(crate, labels, anywhere):
 
 
 def of_claims(anywhere):
-    """What is wrong with docs/proof/claims.md."""
     rows = re.findall(r"^\| `(\w+)(?: [A-Z]+)*` (\|.*)$", sources.page("docs/proof/claims.md"), re.M)
     known = anywhere | {command for command, _ in rows}
     spans = [span for _, row in rows for span in re.findall(r"`([^`]+)`", row)]
     return [f"docs/proof/claims.md: `{span}` stands nowhere" for span in spans if re.fullmatch(NAME, span) and span not in known]
-
-
-def add_words(parser):
-    pass
 
 
 def run(given):

@@ -25,10 +25,6 @@ def rows_of(page):
             yield here, words, {span.split()[0] for span in SPAN.findall(cells[own_column])}
 
 
-def add_words(parser):
-    pass
-
-
 def run(given):
     found = {crate: {} for crate in sources.crates()}
     for crate in found:

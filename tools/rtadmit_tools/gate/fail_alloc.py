@@ -3,9 +3,8 @@
 The run ends as with ample memory, or with status 9 (no memory) and nothing written, and it gives back all that it took where it did so
 before. The pages are those of which examples/compare runs the commands.
 
-With --all every allocation from the refused one on is refused too. Of a call with more than N allocations (2000) as many are refused,
-spread evenly. It needs a C compiler. It ends with 1 where a run ended otherwise, or where no run ended with no memory, since that shows
-nothing."""
+With --all every allocation from the refused one on is refused too. Of a call with more than 2000 allocations as many are refused,
+spread evenly. It needs a C compiler. It ends with 1 where a run ended otherwise, or where no run ended with no memory."""
 import mmap
 import os
 import subprocess
@@ -16,6 +15,7 @@ from ..command_line import TOP
 from ..comparing import compare, module_of, need, program_to_compare
 from ..program import Answer
 
+MOST = 2000
 # The file that TOLD names is four counters: what is refused, from where on all is, what was asked for, what is not given back.
 SOURCE = r"""
 #include <errno.h>
@@ -46,15 +46,9 @@ void free(void *p) { if (told && p) told[3]--; __libc_free(p); }
 """
 
 
-def places(count, at_most):
-    """The requests that are refused, of so many."""
-    some = min(count, at_most)
-    return sorted({1 + place * count // some for place in range(some)})
-
-
 def each_refused(room, made):
     """Whether every run of the call ends as it is to."""
-    words, library, refuse_all, at_most = made
+    words, library, refuse_all = made
     path = room.folder / room.write("told", bytes(32))
     env = dict(os.environ, LD_PRELOAD=library, TOLD=str(path))
     with open(path, "r+b") as file, mmap.mmap(file.fileno(), 32) as shared, memoryview(shared).cast("l") as told:
@@ -65,8 +59,8 @@ def each_refused(room, made):
             return room.run(*words, cwd=TOP, env=env), told[2], told[3]
 
         ample, count, left = run()
-        short, tried, wrong = 0, places(count, at_most), []
-        for place in tried:
+        some, short, wrong = min(count, MOST), 0, []
+        for place in (1 + number * count // some for number in range(some)):
             ended, _, kept = run(place)
             short += ended == Answer(9, "")
             if ended not in (ample, Answer(9, "")):
@@ -74,12 +68,11 @@ def each_refused(room, made):
             if kept > left:
                 wrong.append(f"request {place} refused: {kept} blocks are not given back, and {left} with ample memory")
         need(not wrong, "\n".join([f"{b' '.join(words)}: {count} requests", *wrong]))
-    return {"requests": count, "refused in turn": len(tried), "ended with no memory": short}
+    return {"requests": count, "refused in turn": some, "ended with no memory": short}
 
 
 def add_words(parser):
     parser.add_argument("--all", action="store_true", help="refuse all allocations from one on")
-    parser.add_argument("--at-most", type=int, default=2000, metavar="N", help="refuse so many of a call")
     comparing.add_words(parser)
 
 
@@ -88,5 +81,5 @@ def run(given):
         library = f"{folder}/refuse.so"
         subprocess.run(["cc", "-O1", "-shared", "-fPIC", "-x", "c", "-", "-o", library], input=SOURCE, text=True, check=True)
         calls = module_of("examples/page.py").words(program_to_compare(given).path)
-        made = [(words, library, given.all, given.at_most) for words in calls]
+        made = [(words, library, given.all) for words in calls]
         return int(not compare(given, "calls", each_refused, made, {"ended with no memory": 1}))

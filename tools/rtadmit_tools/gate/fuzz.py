@@ -6,12 +6,11 @@ for N seconds (60), calls that are good (those of examples/README.md, and some t
 bytes flipped, numbers made huge, keys doubled, brackets nested, lines made long; words spoilt, dropped or doubled; a file that is none; an
 output that is full or closed.
 
-Each run may have MIB of memory (2048; with --heavy 8192), and has to end by itself within the limit (20 seconds, six times
-that for great files), with one of the ten statuses and the text that goes with it, with nothing on standard error and by no
-signal. With --beside another program has to answer the same to the commands that it has; where the two differ the files are
-kept, and the rules say which is wrong. Each failure, the largest run, and of files of each number of digits of bytes the slowest
-run, is kept in a folder with its words. The seed is printed: with it and --case the same case runs again. Ends with 1 where a run failed,
-and with 2 where every run was answered by the usage line."""
+Each run may have 2048 MiB of memory, with --heavy 8192, and has to end by itself within the limit (20 seconds, six times that for great
+files), with one of the ten statuses and the text that goes with it, with nothing on standard error and by no signal. With --beside another
+program has to answer the same to the commands that it has. Each failure, the largest run, and of files of each number of digits of bytes
+the slowest run, is kept in a folder with its words. The seed is printed: with it and --case the same case runs again. Ends with 1 where a
+run failed, and with 2 where every run was answered by the usage line."""
 import os
 import pathlib
 import random
@@ -59,8 +58,6 @@ class File(bytes):
 
 
 # Good calls: a list of words each, where a File is written to a file.
-
-
 def hosts():
     """A few small hosts, with jitter in one and levels in another."""
     late, nested = inputs.small(), inputs.tree()
@@ -104,8 +101,6 @@ def page_calls(program):
 
 
 # How a good call is spoilt.
-
-
 def number(dice):
     if dice.random() < 0.3:
         return dice.choice(ODD).encode()
@@ -226,8 +221,6 @@ def spoil(dice, words, others):
 
 
 # Great files: what the file is, which word of which form it is, and its bytes in pieces of a size that is 1 at most.
-
-
 def count(size, most):
     return max(1, int(most * size))
 
@@ -314,8 +307,6 @@ BESIDE = {
 
 
 # Runs
-
-
 class Fuzz:
     """Runs calls, judges each, keeps those that failed, and remembers the largest and for each size of files the slowest."""
 
@@ -329,7 +320,6 @@ class Fuzz:
         self.slowest, self.largest = {}, (0, "")
 
     def told(self, program, words, out, limit):
-        """How a run ended, its text and its complaint."""
         text, complaint = self.scratch / "out", self.scratch / "err"
         text.write_bytes(b"")
         if out == "closed":
@@ -338,11 +328,10 @@ class Fuzz:
         else:
             writer = os.open("/dev/full" if out == "full" else text, os.O_WRONLY)
         with open(writer, "wb") as to, open(complaint, "wb") as err:
-            ended = runs.run([*program.words, *words], to, err, limit, self.given.memory or (8192 if self.given.heavy else 2048))
+            ended = runs.run([*program.words, *words], to, err, limit, 8192 if self.given.heavy else 2048)
         return ended, text.read_bytes(), complaint.read_bytes()
 
     def wrong_with(self, ended, text, complaint, out, limit):
-        """What is wrong with a run, or nothing."""
         status = ended.status
         if status is None:
             return f"was not done after {limit:.0f} seconds"
@@ -432,7 +421,6 @@ class Fuzz:
 
 
 def forms_of(program):
-    """The forms of words of the usage line."""
     line = program.ask().text
     if not line.startswith("usage: "):
         raise Refused(program.path, None, f"answers {line[:60]!r} without words, and no usage line")
@@ -448,7 +436,6 @@ def add_words(parser):
     parser.add_argument("--beside", metavar="PROGRAM", help="another program, which has to answer the same")
     parser.add_argument("--only", metavar="COMMAND", help="no other command")
     parser.add_argument("--keep", metavar="FOLDER", help="where the files of failures are kept, and of the largest and the slowest runs")
-    parser.add_argument("--memory", type=int, metavar="MIB", help="what a run may have")
     add_program(parser)
 
 

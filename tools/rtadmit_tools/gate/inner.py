@@ -105,7 +105,6 @@ class House:
             todo += [other for other in named if other in self.definitions]
 
     def not_met(self):
-        """The definitions outside inner that no reader meets."""
         for one, (line, _) in self.definitions.items():
             if line and one not in self.met and not one[1].startswith("inner."):
                 yield one

@@ -34,7 +34,6 @@ def least_in_windows(period, budget, deadline):
 
 
 def first(deadline, is_enough):
-    """The first budget up to the deadline that is enough, or None."""
     return next(filter(is_enough, range(deadline + 1)), None)
 
 

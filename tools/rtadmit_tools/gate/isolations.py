@@ -12,12 +12,9 @@ one has the core. No formula and no worst case stands here. What must hold is th
 Random runs (100): a system of one to three cores with one to five VCPUs each, some with extra time and some with a part on them, and four
 workloads over it, in which VCPUs start, block and wake at moments that look random, many of them together. In the trace that `rtds` writes
 each period of an isolated VCPU, of one by ties too, has its budget where it ends by the end and the VCPU does not block in its last T
-slots.
+slots. Each VCPU that is exposed by=block, on a small core or a random one, is short by the workload of tools/host expose.
 
-Each VCPU that is exposed by=block, on a small core or a random one, is short by the workload of tools/host expose.
-
-Ends with 1 where something does not hold, where the program has no `isolate`, and where so few were isolated or exposed that this would
-show little."""
+Ends with 1 where something does not hold, and where so few were isolated or exposed that this would show little."""
 import itertools
 import random
 
@@ -30,8 +27,6 @@ LONGEST, EACH, FEW, WORKLOADS = 6, 5, 10, 4
 
 
 # All that can happen on a small core
-
-
 def reaches_short(vcpus, v, last, tie):
     """Whether some period of VCPU v is short in whose last slots, so many, it is not blocked. A VCPU is a period and a budget. Where `tie`
     is said, of periods that end at once the first in the list goes first; else any.
@@ -74,7 +69,6 @@ def moved(vcpu, state, holds):
 
 
 def small_cores(count):
-    """The cores of so many VCPUs that are admitted."""
     choices = [(period, budget) for period in range(1, LONGEST + 1) for budget in range(1, period + 1)]
     for vcpus in itertools.product(choices, repeat=count):
         if sum(budget * 60 // period for period, budget in vcpus) <= 60:
@@ -82,8 +76,6 @@ def small_cores(count):
 
 
 # What is asked, and whether it holds
-
-
 def system_of(cores, extra=(), inner=()):
     """A system of cores, each a list of VCPUs; those of the places in `extra` have extra time, and on those in `inner` a part stands."""
     parts = []
@@ -121,7 +113,6 @@ def exposed(room, kept, cores):
 
 
 def small(room, vcpus):
-    """A small core by all that can happen."""
     kept = kept_of(room, [vcpus])
     for _, v, name, told in kept:
         last = told.last or vcpus[v][0]
@@ -151,8 +142,6 @@ def over_workloads(room, made):
 
 
 # What looks random
-
-
 def random_core(rng):
     """A core that is admitted: the VCPUs together have at most all of it, mostly nearly so."""
     while True:

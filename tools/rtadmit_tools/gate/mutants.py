@@ -6,11 +6,10 @@ an edit is kept there, by a sum of the edit, of its crate's files, of those of t
 stopped goes on where it was, but for those that it had begun, and one after a change tries anew what the change can reach.
 
 Wrong bodies of different functions are tried together, in one check of those functions alone, which tells of each whether it is proved.
-So the libraries are read once for some dozens, and nothing is proved but what was changed. An edit of anything but bodies is tried by `rt
-must-fail`, and costs a proof of its crate.
+An edit of anything but bodies is tried by `rt must-fail`, and costs a proof of its crate.
 
 Told is of each edit whether it is refused (or only because a proof names what the edit took away, which says little of the contract), let
-through, or cannot be applied. The status is 1 where one is let through, can't be applied or was not tried, and 2 where the words are wrong.
+through, or cannot be applied. The status is 1 where one is let through, can't be applied or was not tried, and 2 where there is no try.
 
 An edit is a file NAME.edit as `rt must-fail` takes it: lines 'file: src/lib.rt', and pairs of lines 'old: TEXT' and 'new: TEXT', each TEXT
 exactly once in that file as the pairs before left it.
@@ -27,7 +26,7 @@ import re
 import shutil
 import signal
 import subprocess
-from dataclasses import dataclass
+from collections import namedtuple
 
 from .. import bodies, plants, sources
 from ..command_line import Refused, counted
@@ -44,18 +43,13 @@ WORDS = {
     "bad": "CANNOT BE APPLIED",
     "untried": "NOT TRIED",
 }
+# what `rt must-fail` says of an edit that is not just refused
+KINDS = {"BAD EDIT": "bad", "NOT REFUSED": "through", "only because a proof file names": "named"}
 
 
 # the texts of edits
-
-
-@dataclass(frozen=True)
-class Edit:
-    """An edit of a crate: its name, its text, and the texts of the files that it makes, by their paths, or why it cannot be applied."""
-
-    name: str
-    text: str
-    made: dict | str
+# an edit of a crate: its name, its text, and the texts of the files that it makes, by their paths, or why it cannot be applied
+Edit = namedtuple("Edit", "name text made")
 
 
 def made_by(text, crate):
@@ -82,7 +76,6 @@ def made_by(text, crate):
 
 
 def edits_in(folder, crate):
-    """The edits of a folder, of a crate's folder."""
     texts = {path.stem: path.read_text(encoding="utf-8", errors="replace") for path in sorted(folder.glob("*.edit"))}
     return [Edit(name, text, made_by(text, crate)) for name, text in texts.items()]
 
@@ -107,8 +100,6 @@ def faults_of_texts():
 
 
 # what an edit's answer depends on
-
-
 def crates_below():
     """For each crate the repository's crates that it stands on, directly or not."""
     found = {}
@@ -122,15 +113,12 @@ def sum_of(*parts):
     return hashlib.sha256(repr(parts).encode()).hexdigest()
 
 
-def sum_of_crate(crate):
-    paths = sorted(path for room in sources.ROOMS for path in (sources.TOP / "crates" / crate / room).rglob("*") if path.is_file())
-    return sum_of(*((str(path.relative_to(sources.TOP)), path.read_bytes()) for path in paths))
-
-
 def sums_of(crates, toolchain):
     """For each crate a sum of all that the check of its edits reads but the edit."""
-    below = crates_below()
-    own = {it: sum_of_crate(it) for it in {*crates}.union(*(below[crate] for crate in crates))}
+    below, own = crates_below(), {}
+    for crate in {*crates}.union(*(below[crate] for crate in crates)):
+        paths = sorted(path for room in sources.ROOMS for path in (sources.TOP / "crates" / crate / room).rglob("*") if path.is_file())
+        own[crate] = sum_of(*((str(path.relative_to(sources.TOP)), path.read_bytes()) for path in paths))
     return {crate: sum_of(toolchain, own[crate], *((it, own[it]) for it in sorted(below[crate]))) for crate in crates}
 
 
@@ -150,8 +138,6 @@ class Results:
 
 
 # the room
-
-
 def fill(room, tried):
     """Makes the room's crates those of the checkout. Where one that is needed has no kept proofs, it gets those of the checkout."""
     top, below, crates = sources.TOP, crates_below(), sources.crates()
@@ -172,14 +158,6 @@ def fill(room, tried):
 
 
 # the tries
-
-
-def kind_of(said):
-    """The kind of what `rt must-fail` says of an edit."""
-    kinds = {"BAD EDIT": "bad", "NOT REFUSED": "through", "only because a proof file names": "named"}
-    return next((kind for words, kind in kinds.items() if words in said), "refused")
-
-
 def run_rt(room, words, seconds=None, folder="."):
     """The output of rt, or None where it ran out of time. What it starts ends with this tool."""
     made = subprocess.Popen(
@@ -204,9 +182,10 @@ def tried_alone(room, crate, edits):
         (folder / f"{edit.name}.edit").write_text(edit.text)
     text = run_rt(room, ["must-fail", crate])
     shutil.rmtree(folder, ignore_errors=True)
-    said = dict(re.findall(rf"^rt: must-fail {re.escape(crate)}/(\S+)\.edit: (.*)$", text, re.M))
-    last = ("untried", ["rt said nothing", *filter(str.strip, text.split("\n"))][-1])
-    return {edit.name: (kind_of(said[edit.name]), said[edit.name]) if edit.name in said else last for edit in edits}
+    found = dict.fromkeys((edit.name for edit in edits), ("untried", ["rt said nothing", *filter(str.strip, text.split("\n"))][-1]))
+    for name, said in re.findall(rf"^rt: must-fail {re.escape(crate)}/(\S+)\.edit: (.*)$", text, re.M):
+        found[name] = next((kind for words, kind in KINDS.items() if words in said), "refused"), said
+    return found
 
 
 def checked(room, crate, texts, some):
@@ -243,7 +222,6 @@ def tried_together(room, crate, texts, some):
 
 
 def texts_of(folder):
-    """The sources of a crate's folder, by their paths."""
     return {str(path.relative_to(folder)): path.read_text(encoding="utf-8") for path in (folder / "src").rglob("*.rt")}
 
 
@@ -297,7 +275,6 @@ def summed_up(kinds, faults):
 
 
 def ready(room):
-    """Makes the room, where there may be one."""
     if room == sources.TOP or sources.TOP in room.parents:
         raise Refused(None, None, f"the room {room} lies in this checkout: tell another folder")
     if room.is_dir() and any(room.iterdir()) and not (room / "crates.txt").is_file():
@@ -310,7 +287,6 @@ def interrupt(_signal, _frame):
 
 
 def kept(crate):
-    """The edits of a crate that are kept."""
     return edits_in(sources.TOP / FOLDER / crate, sources.TOP / "crates" / crate)
 
 

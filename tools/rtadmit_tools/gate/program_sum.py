@@ -12,7 +12,6 @@ from ..sealed import UNPROVED, file_of, sum_of, version_of
 
 
 def said(*words):
-    """What a command prints at the top of the checkout, without the newline at its end."""
     ran = subprocess.run(words, cwd=TOP, stdout=subprocess.PIPE, text=True)
     if ran.returncode:
         raise Refused(None, None, f"{' '.join(words)} failed")
@@ -20,12 +19,10 @@ def said(*words):
 
 
 def logic():
-    """The hash of the logic that proves here."""
     return said("rt", "version").split()[-1]
 
 
 def line_of(program):
-    """The line of a program, in the checkout as it stands."""
     path = file_of(program)
     digest = sum_of(path)
     if version_of(program).endswith(UNPROVED):

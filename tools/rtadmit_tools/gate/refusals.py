@@ -1,9 +1,9 @@
 """Gives each command each of its files as one that can't be read or is too long, and looks at what the program answers.
 
 A file is absent, a folder, below a file, unreadable, as long as a file may be, and one byte longer. The answers are those of
-docs/use/formats.md: absent is status 5 and too long status 7, each with its line; what can't be read is status 6 and nothing written; a file
-of zeros as long as it may be is refused for what it holds, with status 3. The files before it are good. Ends with 1 where a run
-answered otherwise."""
+docs/use/formats.md: absent is status 5 and too long status 7, each with its line; what can't be read is status 6 and nothing written;
+a file of zeros as long as it may be is refused for what it holds, with status 3. The files before it are good.
+Ends with 1 where a run answered otherwise."""
 import os
 import shutil
 import tempfile

@@ -1,18 +1,17 @@
 """Makes a folder for someone who only wants the program, and tries it elsewhere.
 
 FILE holds what the gate printed (`bash .ci/run | tee FILE`). Its last line, by tools/gate program-sum, tells the sum of the program that
-the gate left, the commit that it ran over and the logic that proved it; a gate that failed has no such line. The program (the proved one
-where none is named) has to have that sum and the version that its source tells, and that commit has to be checked out.
+the gate left, the commit that it ran over and the logic that proved it. The program (the proved one where none is named) has to have that
+sum and the version that its source tells, and that commit has to be checked out.
 
 FOLDER must not be there yet. It gets the program as `rtadmit`, README.md, docs/, examples/ with the script that runs them, tools/host with
 its verbs and tools/second-checker; RELEASE: the program's sum and version, the commit and the logic, and the gate's last line; and that
 line as GATE, by which report and evidence know the program. FOLDER.tar.gz beside it holds the same, and the same bytes each time: sorted,
-with the moment of the commit and no owner.
+with the moment of the commit and no owner. Both are made in a place of their own beside FOLDER. There the archive is unpacked, and
+examples/compare runs the pages of examples. Where all print what the pages say, both get their names.
 
-Both are made in a place of their own beside FOLDER. There the archive is unpacked, and examples/compare runs the pages of examples.
-Where all print what the pages say, both get their names, and the status is 0. Else, and where anything is refused or fails, nothing is
-left, and the status is 1: no last line of a gate that passed, another sum, commit or version, a build without proofs, changes that are not
-committed, sources that are newer than the program, or a FOLDER that is there."""
+Else, and where anything is refused or fails, nothing is left: no last line of a gate that passed, another sum, commit or version, a build
+without proofs, changes that are not committed, sources that are newer than the program, or a FOLDER that is there."""
 import pathlib
 import re
 import shutil
@@ -31,12 +30,10 @@ VERSION = "crates/rt_report/src/version.rt"
 
 
 def version():
-    """The line of the version that the source of the program tells."""
     return "rtadmit " + re.search(r'^pub const VERSION: &str = "(.+)";$', (TOP / VERSION).read_text(), re.MULTILINE)[1]
 
 
 def check(origin):
-    """Refuses a program that is not of the checkout."""
     if said("git", "status", "--porcelain"):
         raise Refused(None, None, "the checkout has changes that are not committed")
     if said("git", "rev-parse", "HEAD") != origin.gate.commit:
@@ -50,7 +47,6 @@ def check(origin):
 
 
 def about(size, origin):
-    """The text of RELEASE."""
     return f"""program: rtadmit, {size} bytes, sha256 {origin.sum}
 commit: {origin.gate.commit}, {said('git', 'log', '-1', '--format=%cs')}
 version: {origin.version}

@@ -12,21 +12,15 @@ here. What must hold is this:
 The guests are the same on each run. Ends with 1 where something does not hold, and where so few guests were answered or refused
 that this would show little."""
 import itertools
-from dataclasses import dataclass
+from collections import namedtuple
 
 from ..comparing import add_words, compare, core, need, part, task, tree
 from ..formulas import Task, ranks
 from ..program import Answer
 
 
-@dataclass(frozen=True)
-class Guest:
-    """A guest under a fixed priority with a budget in every period."""
-
-    sched: str
-    period: int
-    budget: int
-    tasks: list
+# a guest under a fixed priority with a budget in every period
+Guest = namedtuple("Guest", "sched period budget tasks")
 
 
 def tasks_of(*numbers):
@@ -84,7 +78,6 @@ def system_of(guest):
 
 
 def expected(guest):
-    """The answer that what was met asks for."""
     worst, late = search(guest)
     if late:
         return Answer(1, f"verdict=no\noverfull part leaf task=t{min(late)}\n")

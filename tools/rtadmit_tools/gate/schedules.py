@@ -48,7 +48,6 @@ def scheduled(sched, jobs, given, gives_up):
 
 
 def counted(kind, node, given, jobs, slots):
-    """The lines of a node, and whether a job misses."""
     missed = [job for job in jobs if job.due <= slots and job.in_time < job.work]
     lines = [f"{kind} {node['name']} given={len(given)} jobs={len(jobs)} missed={len(missed)}"]
     for job in sorted(missed, key=lambda job: job.due)[:1]:
@@ -137,8 +136,6 @@ def simulated(room, made):
 
 
 class Vcpu:
-    """A VCPU of a core under RTDS."""
-
     def __init__(self, place, told):
         self.place, self.name, self.period, self.budget = place, told["name"], told["period"], told["budget"]
         self.extra, self.start, self.blocked, self.had = bool(told.get("extra")), None, False, 0

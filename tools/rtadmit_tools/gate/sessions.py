@@ -4,39 +4,32 @@ Of a script each row's answer is looked at, and the plan in the end, against `ad
 
 N scripts (100, as the gate does) of 4 to 10 rows, over small hosts of one or two cores and up to two levels: additions, removals and
 changes, of which some are wrong in each way in which a row can be. The model keeps the parts as a list. A row that it refuses has to be
-refused with the same word; of any other the edited file is judged by `admit`, and the row has to be answered by what that says. N
-placements (60) of 2 to 8 guests on hosts of one to four cores: each guest is tried on the cores in order by `admit` of the file with it,
-and the text of `place` has to be that file in the end, or to name the guest that is bad or fits on no core. The seed is printed. Ends
-with 1 where an answer differs."""
+refused with the same word; of any other the edited file is judged by `admit`, and the row has to be answered by what that says. Sixty
+placements of 2 to 8 guests on hosts of one to six cores: each guest is tried on the cores in order by `admit` of the file with it, and the
+text of `place` has to be that file in the end, or to name the guest that is bad or fits on no core. The seed is printed.
+Ends with 1 where an answer differs."""
 import random
 import tomllib
 
 from .. import comparing
 from ..comparing import SCHEDS, compare, core, need, part, program_to_compare, task, tree
 from ..formulas import task_of
-from ..system_file import System
+from ..system_file import TASK_KEYS, System
 
+PLACEMENTS = 60
 KEYS = ("name", "parent", "sched", "period", "budget")
-TASK_KEYS = ("name", "period", "deadline", "jitter", "work")
-
-
-def row_text(row):
-    tasks = ";".join(":".join(str(one[key]) for key in TASK_KEYS) for one in row["task"])
-    return ",".join(str("" if row[key] is None else row[key]) for key in ("op", *KEYS)) + f",{tasks}\n"
 
 
 def script_text(rows):
-    return "op,part,parent,sched,period,budget,tasks\n" + "".join(map(row_text, rows))
+    lines = ["op,part,parent,sched,period,budget,tasks\n"]
+    for row in rows:
+        fields = ["" if row[key] is None else str(row[key]) for key in ("op", *KEYS)]
+        tasks = ";".join(":".join(str(one[key]) for key in TASK_KEYS) for one in row["task"])
+        lines.append(",".join([*fields, tasks]) + "\n")
+    return "".join(lines)
 
 
 # The model: a host is the tables of its file, a row the table of a part with a word
-
-
-def leaf_named(host, name):
-    """The place of the leaf of a name, or none."""
-    return next((place for place, part in enumerate(host["part"]) if part["name"] == name and part["task"]), None)
-
-
 def is_bad_part(row):
     names = [one["name"] for one in row["task"]]
     good_budget = row["budget"] is None or 1 <= row["budget"] <= row["period"]
@@ -44,42 +37,31 @@ def is_bad_part(row):
 
 
 def fault_of(host, row):
-    """The first fault of a row, or none."""
-    parts = {part["name"]: part for part in host["part"]}
-    known = parts.keys() | {core["name"] for core in host["core"]}
-    if row["op"] == "add":
-        if row["name"] in known:
-            return "NameTaken"
-        if row["parent"] not in known:
-            return "NoSuchParent"
-        if row["parent"] in parts and parts[row["parent"]]["task"]:
-            return "Mixed"
-        return "BadPart" if is_bad_part(row) else "TooMany" if len(parts) >= 512 else None
-    place = leaf_named(host, row["name"])
-    if place is None:
-        return "NoSuchLeaf"
-    if row["op"] == "change":
-        return "BadPart" if is_bad_part(row) else None
-    parent = host["part"][place]["parent"]
-    return "LastChild" if parent in parts and sum(part["parent"] == parent for part in host["part"]) == 1 else None
+    parts, known = {part["name"]: part for part in host["part"]}, names_of(host)
+    leaf, parent = parts.get(row["name"]), parts.get(row["parent"])
+    is_last = lambda: leaf["parent"] in parts and sum(part["parent"] == leaf["parent"] for part in host["part"]) == 1
+    rules = {
+        "add": {
+            "NameTaken": lambda: row["name"] in known, "NoSuchParent": lambda: row["parent"] not in known,
+            "Mixed": lambda: parent and parent["task"], "BadPart": lambda: is_bad_part(row), "TooMany": lambda: len(parts) >= 512,
+        },
+        "change": {"NoSuchLeaf": lambda: not (leaf and leaf["task"]), "BadPart": lambda: is_bad_part(row)},
+        "remove": {"NoSuchLeaf": lambda: not (leaf and leaf["task"]), "LastChild": is_last},
+    }
+    return next((fault for fault, breaks in rules[row["op"]].items() if breaks()), None)
 
 
 def edited(host, row):
     """The host with a row that has no fault."""
-    parts, place = list(host["part"]), leaf_named(host, row["name"])
     new = {key: row[key] for key in (*KEYS, "task")}
     if row["op"] == "add":
-        parts.append(new)
-    elif row["op"] == "remove":
-        del parts[place]
-    else:
-        parts[place] = new | {"parent": parts[place]["parent"]}
-    return host | {"part": parts}
+        return host | {"part": [*host["part"], new]}
+    if row["op"] == "remove":
+        return host | {"part": [part for part in host["part"] if part["name"] != row["name"]]}
+    return host | {"part": [new | {"parent": part["parent"]} if part["name"] == row["name"] else part for part in host["part"]]}
 
 
 # What is drawn
-
-
 def some_tasks(draw):
     tasks = []
     for number in range(draw.choice([1, 1, 2, 3])):
@@ -155,8 +137,6 @@ def some_placement(draw):
 
 
 # What has to be answered
-
-
 def admitted(room, host):
     """What `admit` says of a host: yes with the lines of its parts, or the line of its refusal."""
     verdict, *lines = room.run("admit", room.write("edited.toml", host)).lines
@@ -213,7 +193,6 @@ def as_first_fit(room, placement):
 
 def add_words(parser):
     parser.add_argument("--scripts", type=int, default=100, metavar="N", help="so many scripts")
-    parser.add_argument("--placements", type=int, default=60, metavar="N", help="so many placements")
     parser.add_argument("--seed", type=int, default=random.SystemRandom().randrange(10**6), metavar="N", help="for the same ones again")
     comparing.add_words(parser)
 
@@ -221,5 +200,5 @@ def add_words(parser):
 def run(given):
     draw = random.Random(given.seed)
     scripts = compare(given, f"scripts (seed {given.seed})", as_admit_says, some_scripts(draw, program_to_compare(given), given.scripts))
-    placements = (some_placement(draw) for _ in range(given.placements))
+    placements = (some_placement(draw) for _ in range(PLACEMENTS))
     return int(not (scripts and compare(given, f"placements (seed {given.seed})", as_first_fit, placements)))

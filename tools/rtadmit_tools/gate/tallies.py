@@ -29,7 +29,7 @@ def stretches(rows, begins, ends, end):
             since = None
         if since is None and begins(row):
             since = row[0]
-    return found + ([(since, end)] if since is not None else [])
+    return found + [(since, end)] * (since is not None)
 
 
 def within(spans, begin, end):
@@ -48,7 +48,6 @@ def watched(rows, core, name):
 
 
 def rows_of(trace, microsecond=1):
-    """The rows of a trace. In one of microseconds each counts as so many."""
     header, *rows = csv.reader(trace.splitlines())
     unit = microsecond if header[0] == "at" else 1
     return [(int(at) * unit, *rest) for at, *rest in rows]
@@ -115,7 +114,6 @@ def some_trace(numbers, parts):
 
 
 def made(seed, count):
-    """Systems, as texts, each with a trace."""
     numbers = Numbers(seed)
     for _ in range(count):
         system = some_system(numbers)

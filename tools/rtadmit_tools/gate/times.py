@@ -45,7 +45,6 @@ class Process:
 
 
 def link_of(path):
-    """Where a link leads, or an empty text."""
     try:
         return os.readlink(path)
     except OSError:
@@ -75,7 +74,6 @@ class Meter:
         before = {pid for pid, it in found.items() if pid != self.own and self.pipe in it.outputs}
 
         def taken(it):
-            """With all that it has started."""
             return it.ticks + sum(map(taken, below[it.pid]))
 
         def walk(it):
@@ -92,7 +90,6 @@ class Meter:
             walk(it)
 
     def table(self, second, elapsed):
-        """The lines of the table, with this many ticks in a second."""
         crates = defaultdict(lambda: dict.fromkeys(KINDS, 0))
         for (crate, kind), ticks in self.checks.values():
             crates[crate][kind] += ticks
@@ -103,10 +100,6 @@ class Meter:
         for name, row in [*rows, ("all crates", total)]:
             lines.append(f"{name:<18}" + "".join(f"{it / second:>16.0f}" for it in [*row, sum(row)]))
         return [*lines, f"other {(gate - sum(total)) / second:.0f} s, gate {gate / second:.0f} s of processor time, in {elapsed:.0f} s"]
-
-
-def add_words(parser):
-    pass
 
 
 def run(given):

@@ -10,7 +10,7 @@ A row of that table names functions of its crates, methods as `Type::method`, or
 not be named. Told is what is reached by no command and not named, and what is named and is reached or not there; the status is 1 where
 something is. --list lists all that no command reaches, with how many lines it has, and `tests` where a crate of tests has its name."""
 import re
-from dataclasses import dataclass
+from collections import namedtuple
 
 from .. import sources
 
@@ -19,18 +19,9 @@ IMPORT = re.compile(r"^(pub )?use (\w+)::([^;]*)", re.M)
 NAME = re.compile(r"(?:(\w+)(?:::<[^()]*>)?::|(\.))?\b([A-Za-z_]\w*)\b")
 
 
-@dataclass
-class Used:
+class Used(namedtuple("Used", "crate path line about lines imports names")):
     """A function, where it stands and how many lines it has, from which crates its file imports names, and each name of its head and body
     with what stands before it: a type, a crate or a module, a point, or nothing."""
-
-    crate: str
-    path: object
-    line: int
-    about: sources.Function
-    lines: int
-    imports: dict
-    names: set
 
     @property
     def place(self):
@@ -53,7 +44,6 @@ class Used:
 
 
 def functions_of(crate, file):
-    """The functions of a file that have a body."""
     line, imports = 1, {}
     for _, first, rest in IMPORT.findall(file.text):
         imports.update(dict.fromkeys(re.findall(r"\w+", rest), crate if first in ("crate", "super", "self") else first))
@@ -82,7 +72,6 @@ class Program:
         self.reached = self.reached_from(one for one in self.functions if (one.crate, one.name) == ("rtadmit", "main"))
 
     def reached_from(self, starts):
-        """What these functions reach, by their places."""
         reached, todo, seen = set(), list(starts), set()
         while todo:
             reached.update(one.place for one in todo)

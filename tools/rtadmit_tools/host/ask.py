@@ -1,18 +1,18 @@
 """Any answer of the program, as its text, as one JSON object, or as lines that a CI system shows.
 
 WORDS are the program's: tools/host ask admit FILE --json. Without --json and --annotate its text is printed as it is. The status is the
-program's; it is 1 as well where this tool refuses, with the cause on standard error, and 2 where the words are wrong.
+program's; it is 1 as well where this tool refuses.
 
---json prints an object by docs/use/answer.schema.json: the words, the status with its name in docs/use/formats.md, the verdict or null, and the
-other lines of the text, each as an object. Its `kind` is the first word of the line, its words that stand alone have keys as `name`, and
-KEY=VALUE is what it says; a whole number is a number, and `-` is null. In an answer of `session` the number in front is `row`. What is no
-such text has a key of its own: `events` of `rtds`, `system` of `place`, `certificate` of `certify`.
+--json prints an object by docs/use/answer.schema.json: the words, the status with its name in docs/use/formats.md, the verdict or null,
+and the other lines of the text, each as an object. Its `kind` is the first word of the line, its words that stand alone have keys as
+`name`, and KEY=VALUE is what it says; a whole number is a number, and `-` is null. In an answer of `session` the number in front is `row`.
+What is no such text has a key of its own: `events` of `rtds`, `system` of `place`, `certificate` of `certify`.
 
 --annotate prints a line for each thing that is not a yes, as GitHub's runners show it, and nothing for a yes:
 
     ::error file=FILE,line=LINE::COMMAND: the program's line, and of a fault what tools/host why finds
 
-The file is that in which the fault is, and so is the line; of a row of a script that is not taken, of a guest that has no core and of a
+The file and the line are those in which the fault is; of a row of a script that is not taken, of a guest that has no core and of a
 period that is short or over it is the second file, with the row, or the first row from that moment on; else it is the system file, with the
 line of the name. What is not found is left out."""
 import csv
@@ -47,7 +47,6 @@ def objects(lines):
 
 
 def object_of(words, answer):
-    """The whole answer as an object."""
     told = {"words": words, "status": answer.status, "answer": STATUS[answer.status], "verdict": None, "lines": []}
     lines, command = answer.lines, words[0] if words else ""
     if lines and lines[0] in ("verdict=yes", "verdict=no", "verdict=wide"):
@@ -104,7 +103,6 @@ def place_of(line, command, files, answer):
 
 
 def escaped(text, more=""):
-    """A text as GitHub's lines have it."""
     for letter in "%\r\n" + more:
         text = text.replace(letter, f"%{ord(letter):02X}")
     return text

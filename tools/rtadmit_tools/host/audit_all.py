@@ -12,15 +12,12 @@ standard input, and each is asked about as its name comes. It prints
                                                            for each broken period, by its moment in the recording
     vcpu NAME begun=N judged=N short=N over=N least_ns=X most_ns=Y, for each part on a core
 
-Each period counts once; docs/use/audit.md says what is counted by whom. Where the broken periods of a piece that are looked up here are not
-as many as the program counts, or the first is another, there is no answer. A program without `tally` is asked `audit`: then the first
-broken period of each piece is told, and no counts.
+Each period counts once; docs/use/audit.md says what is counted by whom. A program without `tally` is asked `audit`: then the first
+broken period of each piece is told, and no counts. --parallel prints for each piece a line that asks about it, and keeps the answer
+beside it, as PIECE.told. GNU parallel runs such lines, also on other machines that have the folder. --told takes these answers.
 
---parallel prints for each piece a line that asks about it, and keeps the answer beside it, as PIECE.told. GNU parallel runs such lines,
-also on other machines that have the folder. --told takes these answers in place of asking.
-
-The status is 0 on yes, 1 on no, 2 where the words are wrong, and 3 where there is no answer, with the cause on standard error: a piece
-that is missing or that the program does not judge; a table that breaks its form. A recording that was cut off, whose table has no last
+The status is 0 on yes, 1 on no, and 3 where there is no answer: a piece that is missing or that the program does not judge, or of which
+other periods are found broken here than it tells; a table that breaks its form. A recording that was cut off, whose table has no last
 row, is no yes: `verdict=unknown` where no period of its pieces is broken, and 3."""
 import concurrent.futures
 import csv
@@ -29,6 +26,7 @@ import pathlib
 import re
 import shlex
 import sys
+from collections import namedtuple
 from dataclasses import dataclass, field
 
 from ..command_line import Refused, counted
@@ -74,16 +72,8 @@ def pieces_of(folder):
     return pieces, whole
 
 
-@dataclass(order=True)
-class Broken:
+class Broken(namedtuple("Broken", "from_ns place what name got_ns of_ns")):
     """A broken period: where it begins in the recording, and what is told of it. Its order is that in which `audit` tells."""
-
-    from_ns: int
-    place: int
-    what: str
-    name: str
-    got_ns: int
-    of_ns: int
 
     def __str__(self):
         return f"{self.what} {self.name} from_ns={self.from_ns} got_ns={self.got_ns} of_ns={self.of_ns}"
@@ -163,7 +153,6 @@ class Audit:
         return broken
 
     def text(self, whole):
-        """The whole answer."""
         told = ["verdict=no", *map(str, sorted(self.broken))]
         if not self.broken:
             told = [f"verdict={'yes' if whole else 'unknown'}", f"periods={self.periods}"]
@@ -174,7 +163,6 @@ class Audit:
 
 
 def told_answer(piece):
-    """The answer that was kept beside a piece."""
     path = piece.path.with_name(piece.path.name + ".told")
     text = path.read_text()
     found = STATUS_LINE.search(text)
@@ -211,7 +199,6 @@ def add_words(parser):
     parser.add_argument("--parallel", action="store_true", help="prints the work as lines for GNU parallel, and asks nothing")
     parser.add_argument("--told", action="store_true", help="takes the answers that such lines kept")
     add_program(parser)
-    parser.set_defaults(refuse=parser.error)
 
 
 def run(given):

@@ -6,17 +6,14 @@ less. Under earliest deadline first the first is the demand of all tasks. Under 
 work and that of all which rank above it, up to the window in which it must be done: of the task that would be short; or of
 TASK; or of the one that ranks last.
 
-The budget and the window that is short are those of `admit FILE`, and they are marked. The curves are computed here, by the formulas of
-docs/use/certificate.md; where they do not say the same of the marked window, there is no picture. Where the part itself is refused, its curve
-is that of the budget that is too small, or of all slots. Where something else is refused, no budget is told, and there is no picture of
-it. A second plot is close around the marked window, where the first does not show what is missing. More windows than a picture has
-columns are drawn at every half column.
-
-The status is 0, 1 where there is no picture, with the cause on standard error, and 2 where the words are wrong."""
+The budget and the window that is short are those of `admit FILE`, and they are marked. The curves are computed here, by the formulas
+of docs/use/certificate.md; where they do not say the same of the marked window, there is no picture. Where the part itself is refused,
+its curve is that of the budget that is too small, or of all slots. Where something else is refused, no budget is told, and there is no
+picture of it. A second plot is close around the marked window, where the first does not show what is missing."""
 import math
 import pathlib
 import re
-from collections.abc import Callable
+from collections import namedtuple
 from dataclasses import dataclass
 
 from ..command_line import Refused
@@ -25,15 +22,17 @@ from ..program import PART_LINE, add_program, program_of
 from ..svg import GREY, Canvas, Plot, marks
 from ..system_file import read_system
 
+# what a curve is of windows from a first one on, how it is drawn, and its text
+Curve = namedtuple("Curve", "of first colour dashes width text")
 PLOT, HEIGHT, CLOSE_HEIGHT, TOP = 880, 360, 200, 64
 SAMPLES, VISIBLE = 2 * PLOT, 10
 # told apart by those who do not see red or green, and by their dashes
 ASKED, ENOUGH, LESS = "#000000", "#0072b2", "#d55e00"
+DASHES = 'stroke-dasharray="7 4"'
 WITNESS_LINE = re.compile(r"witness (\S+) budget=(\d+) start=\d+ span=(\d+) task=(\S+) .*")
 
 
 def read_leaf(path, name):
-    """A part with tasks of a system file."""
     node = read_system(path).nodes.get(name)
     if node is None or node.kind != "part":
         raise Refused(path, None, f"it has no part {name}")
@@ -43,16 +42,13 @@ def read_leaf(path, name):
 
 
 def task_called(leaf, name):
-    """The place of a leaf's task."""
-    found = next((place for place, task in enumerate(leaf.tasks) if task.name == name), None)
-    if found is None:
-        raise Refused(None, None, f"{leaf.name} has no task {name}; it has {', '.join(task.name for task in leaf.tasks)}")
-    return found
+    names = [task.name for task in leaf.tasks]
+    if name not in names:
+        raise Refused(None, None, f"{leaf.name} has no task {name}; it has {', '.join(names)}")
+    return names.index(name)
 
 
 # The program
-
-
 @dataclass
 class Told:
     """What the program tells of a leaf: its budget, and the window that is short, of which task, and with which budget."""
@@ -69,7 +65,6 @@ class Told:
 
 
 def told_by(answer, program, path, leaf):
-    """What an answer of the program tells of the leaf."""
     if answer.status == 1 and answer.lines[:1] == ["verdict=no"]:
         return told_on_no(path, leaf, answer)
     if not answer.is_yes:
@@ -99,24 +94,6 @@ def told_on_no(path, leaf, answer):
 
 
 # What is drawn
-
-
-@dataclass
-class Curve:
-    """A curve of windows from a first one on, how it is drawn, and what it is."""
-
-    of: Callable
-    first: int
-    colour: str
-    dashes: str
-    width: float
-    text: str
-
-    @property
-    def dashed(self):
-        return f'stroke-dasharray="{self.dashes}"' if self.dashes else ""
-
-
 class Curves:
     """The curves of a leaf, checked against what the program tells."""
 
@@ -134,7 +111,6 @@ class Curves:
         self.check()
 
     def rank(self, task):
-        """Takes the task whose request is drawn."""
         leaf, told, order = self.leaf, self.told, ranks(self.leaf.sched, self.leaf.tasks)
         place = task_called(leaf, task or told.task or leaf.tasks[order[-1]].name)
         above = [leaf.tasks[other] for other in order[:order.index(place)]]
@@ -172,7 +148,6 @@ class Curves:
         return self.given(less, window), self.asked(window), self.given(self.told.budget, window)
 
     def until(self):
-        """The last window that is drawn."""
         leaf, told = self.leaf, self.told
         if self.task:
             return self.task.room + max(2, self.task.room // 8)
@@ -190,7 +165,7 @@ class Curves:
         found = [Curve(lambda window: self.given(budget, window), 0, ENOUGH, "", 3.2, f"least supply with a budget of {budget}{word}")]
         if self.told.passes:
             less = f"least supply with one slot less, {budget - 1}"
-            found.append(Curve(lambda window: self.given(budget - 1, window), 0, LESS, "7 4", 1.8, less))
+            found.append(Curve(lambda window: self.given(budget - 1, window), 0, LESS, DASHES, 1.8, less))
         return [*found, Curve(self.asked, 1 if self.task else 0, ASKED, "", 1.6, what)]
 
 
@@ -208,7 +183,6 @@ def windows(plot, first, exact):
 
 
 def steps(plot, curve, exact):
-    """A curve as the steps of a path."""
     at, *others = windows(plot, curve.first, exact)
     last = plot.y(curve.of(at))
     told = [f"M{plot.x(at):.2f} {last:.2f}"]
@@ -248,22 +222,17 @@ class Picture:
 
     def title(self):
         leaf, told, task = self.curves.leaf, self.curves.told, self.curves.task
-        self.canvas.text(12, 24, leaf.name, size=16, more='font-weight="bold" font-family="monospace"')
         how = "computed" if told.is_computed else "given" if told.passes else "given, and too small"
         budget = "no budget is enough" if told.is_computed and not told.passes else f"budget {told.budget} µs ({how})"
         order = SCHEDS[leaf.sched] + (f", task {task.name}" if task else "")
-        self.canvas.text(12, 44, f"period {leaf.period} µs, {budget}; {order}", fill=GREY)
+        self.canvas.title(leaf.name, f"period {leaf.period} µs, {budget}; {order}")
 
     def mark(self, plot):
-        """The marked window in a plot, from it to the next one, and what is missing in it."""
         less, asked, _ = self.curves.levels(self.marked)
         left = plot.x(self.marked)
         width = max(2, plot.x(self.marked + 1) - left)
         self.canvas.rect(left, plot.top, width, plot.height, LESS, 'fill-opacity="0.18"')
         self.canvas.rect(left, plot.y(asked), width, max(1, plot.y(less) - plot.y(asked)), LESS, 'fill-opacity="0.6"')
-
-    def ring(self, x, y):
-        self.canvas.circle(x, y, 4.5, "white", f'stroke="{ENOUGH}" stroke-width="2"')
 
     def draw(self, number, plot):
         canvas, middle = self.canvas, plot.top + plot.height / 2
@@ -278,10 +247,10 @@ class Picture:
         if has(plot, self.marked):
             self.mark(plot)
         for curve in self.drawn:
-            stroke = f'stroke="{curve.colour}" stroke-width="{curve.width}" {curve.dashed}'
+            stroke = f'stroke="{curve.colour}" stroke-width="{curve.width}" {curve.dashes}'
             canvas.path(steps(plot, curve, (self.marked, self.enough)), f'fill="none" {stroke}')
         if has(plot, self.enough):
-            self.ring(plot.x(self.enough), plot.y(self.curves.asked(self.enough)))
+            canvas.ring(plot.x(self.enough), plot.y(self.curves.asked(self.enough)), ENOUGH)
         canvas.lines.append("</g>")
         plot.frame()
 
@@ -289,7 +258,7 @@ class Picture:
         """A line for each curve, with its level in the marked window, and one for each mark. Answers where it ends."""
         canvas, told = self.canvas, self.curves.told
         for curve in self.drawn:
-            canvas.line(12, y, 44, y, curve.colour, curve.width, curve.dashed)
+            canvas.line(12, y, 44, y, curve.colour, curve.width, curve.dashes)
             canvas.text(52, y + 4, curve.text + (f"; {curve.of(self.marked)} in the marked window" if self.marked else ""))
             y += 20
         if self.marked:
@@ -303,7 +272,7 @@ class Picture:
             canvas.text(52, y + 4, f"no window is marked: {why}", fill=GREY)
         if self.enough:
             y += 20
-            self.ring(28, y)
+            canvas.ring(28, y, ENOUGH)
             canvas.text(52, y + 4, f"first window in which a budget of {told.budget} is enough: {self.enough} slots")
         return y + 20
 

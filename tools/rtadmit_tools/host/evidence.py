@@ -12,14 +12,12 @@ the gate left, the commit and the logic; the program that is asked has to have t
     SUMS                      the SHA-256 of all of these, as `sha256sum -c SUMS` reads it
 
 and OUT.tar.gz, beside it, holds the same under the name `evidence`: the same bytes each time from the same inputs, program and tools. The
-program is asked over the copies, so that the words of verdicts.txt can be said again inside the folder. A certificate is also given to
-tools/second-checker.
+program is asked over the copies, so that the words of verdicts.txt can be said again inside the folder.
 
 Refused, with nothing left: a gate that failed; a program of another sum; a file that the program does not judge; a trace that it refuses;
-a certificate over which the two checkers differ; an OUT that is there; and a program of which no line of a gate tells, or that says of
-itself that it is unproved. --unproved takes these two, without gate.txt, and verdicts.txt, report.html and version.txt then begin by saying
-so. The status is 1 where it is refused, and 2 where the words are wrong; a host that is not admitted, and a trace that holds something
-against it, are evidence too, with status 0."""
+a certificate over which it and tools/second-checker differ; an OUT that is there; and a program of which no line of a gate tells, or that
+says of itself that it is unproved. --unproved takes these two, without gate.txt, and verdicts.txt, report.html and version.txt then begin
+by saying so. A host that is not admitted, and a trace that holds something against it, are evidence too, with status 0."""
 import contextlib
 import pathlib
 import shutil
@@ -55,7 +53,6 @@ def certified(program):
 
 
 def verdicts(asked, mark):
-    """The text of verdicts.txt."""
     admit, *others = [(f"rtadmit {words}", answer) for words, answer in asked.answers]
     answers = [admit, *certified(asked.program), *others]
     told = [f"$ {words}\n{answer.text}status {answer.status}\n" for words, answer in answers]
@@ -63,7 +60,6 @@ def verdicts(asked, mark):
 
 
 def fill(folder, given, program, origin):
-    """Puts all into a new folder."""
     shutil.copyfile(given.file, folder / SYSTEM)
     if given.trace:
         shutil.copyfile(given.trace, folder / TRACE)

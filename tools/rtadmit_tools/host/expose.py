@@ -3,58 +3,35 @@
 FILE is the system file and NAME a part that `isolate` tells as exposed by=block. OUT gets the workload (docs/use/formats.md). It is that of
 the proof: let r be twice the longest period of the core. Each VCPU of the core starts in its first period, so that one of its periods ends
 where the period of NAME ends that begins at r, or a slot before where it stands behind NAME in the file. It blocks a slot later, and wakes
-at r. So all others wake with NAME, with whole budgets, in periods that end no later than its own.
-
-The tool then runs `rtds` over the workload and `tally` over the trace, and prints the short period and the words that show it:
+at r. So all others wake with NAME, with whole budgets, in periods that end no later than its own. The tool then runs `rtds` over the
+workload and `tally` over the trace, and prints the short period and the words that show it:
 
     exposed NAME by=block: OUT, SLOTS slots
     short NAME from_ns=X got_ns=G of_ns=B
     ./rtadmit rtds FILE OUT SLOTS | ./rtadmit tally FILE /dev/stdin
 
---trace keeps the trace, for `audit` and tools/host timeline. `audit` may tell another part, which is short from the same moment.
-
-Refused, with nothing written and the status 1: a NAME that `isolate` does not tell as exposed by=block, with what it tells; a file that it
-refuses; a core whose longest period is more than 333,333, since a run has at most 1,000,000 slots; a period that comes out as not short,
-which contradicts what is proved. The status is 2 where the words are wrong."""
+`audit` may tell another part, which is short from the same moment. Refused, with nothing written: a NAME that `isolate` does not tell as
+exposed by=block, with what it tells; a file that it refuses; a core whose longest period is more than 333,333, since a run has at most
+1,000,000 slots; a period that comes out as not short, which contradicts what is proved."""
 import os
 import pathlib
 import shlex
-from dataclasses import dataclass
+from collections import namedtuple
 
 from ..command_line import Refused
 from ..program import add_program, line_object, program_of
 from ..system_file import read_system
 from .why import called
 
+Vcpu = namedtuple("Vcpu", "name period budget")
+# what `isolate` tells of a VCPU: "isolated", "ties" or "block", and the slots that are enough where there are some
+Kept = namedtuple("Kept", "name how last", defaults=[None])
 MOST_SLOTS = 1_000_000
 KEYS = {"isolated": ["last", "of"], "ties": ["by", "last", "of"], "block": ["by"]}
 
 
-@dataclass(frozen=True)
-class Vcpu:
-    """A part on a core: its name, its period and its budget."""
-
-    name: str
-    period: int
-    budget: int
-
-
-@dataclass(frozen=True)
-class Kept:
-    """What `isolate` tells of a VCPU: "isolated", "ties" or "block", and the slots that are enough where there are some."""
-
-    name: str
-    how: str
-    last: int | None = None
-
-
-@dataclass(frozen=True)
-class Workload:
+class Workload(namedtuple("Workload", "rows slots begins")):
     """Rows of a moment, a name and a word; how many slots its run has; and where the period begins that is short in it."""
-
-    rows: list
-    slots: int
-    begins: int
 
     def text(self):
         return "".join(["at,vcpu,what\n", *(f"{at},{name},{what}\n" for at, name, what in self.rows)])

@@ -1,32 +1,27 @@
 """Makes a trace for the auditor out of the text of a Linux kernel's trace buffer.
 
-RECORDING is what the kernel's file `trace` holds, what `trace-cmd report` prints (with -t in nanoseconds), or what `perf script`
-or `perf sched script` prints (with --ns). `-` is standard input; memory does not grow with the recording. It needs the events
-sched_switch and sched_wakeup, in perf's text sched_waking in its place, and takes timer:hrtimer_start where it is; others are passed
-over. WHO is the number or the name of a thread, N the number of a processor. The trace goes to standard output without --out. It counts
-nanoseconds where the recording does, else microseconds, from the first `start` on.
-
-docs/use/audit.md says which events become which rows, and when a VCPU starts: only where a period of it begins for sure. The periods, and the
-budgets that the threads have at least, are those of the system file (--system). What a thread does before its start is no row.
+RECORDING is what the kernel's file `trace` holds, what `trace-cmd report` prints (with -t in nanoseconds), or what `perf script` or
+`perf sched script` prints (with --ns). `-` is standard input; memory does not grow with the recording. It needs the events sched_switch
+and sched_wakeup, in perf's text sched_waking in its place, and takes timer:hrtimer_start where it is; others are passed over. WHO is the
+number or the name of a thread, N the number of a processor. The trace goes to standard output without --out. It counts nanoseconds where
+the recording does, else microseconds, from the first `start` on. docs/use/audit.md says which events become which rows, and when a VCPU
+starts. What a thread does before its start is no row.
 
 The `end` is where a mark says that the recording was stopped, at --until, or else at the last event: then standard error says so, since
 what waits to the end is not seen then. Where an event is missing the trace ends, and another one begins behind the gap, in which each VCPU
 starts anew: standard error tells the gaps, from when until when nothing is missing, and who does not start there. Several traces stand one
-behind another in the text, with moments that go on; tools/host split cuts it. --longest-whole keeps the longest alone.
+behind another in the text, with moments that go on; tools/host split cuts it.
 
 --from and --until take moments of the recording. What is earlier, marks and sleeps too, is as if it had not been recorded.
-With --any-length a trace may be longer than 1,000 seconds: `audit` does not take it then, and tools/host split cuts it.
-
---as-it-comes is for a recording that goes on, as the kernel's file `trace_pipe`: rows are written while it is read, in nanoseconds, and
-the trace may have any length. Events are put in order first where they come up to 10 ms late, since the kernel empties one processor's
-buffer after another's. A trace that ends at a gap has no end then, and tools/host split keeps those of its pieces that are whole:
+--as-it-comes is for a recording that goes on, as the kernel's file `trace_pipe`: rows are written while it is read, in nanoseconds. Events
+are put in order first where they come up to 10 ms late. A trace that ends at a gap has no end then:
 
     cat trace_pipe | tools/host from-ftrace - --as-it-comes .. | tools/host split - .. | tools/host audit-all system.toml -
 
 Refused, with the line, and nothing written (but for rows that came): fewer events than the head of the recording tells; a thread of the
 map that never starts; a mark that tells another period than the system file; a processor that is not in the map; a thread that migrates;
 time that falls or passes what a trace holds; two threads of one name; a line that is no event, and a file that looks like something else,
-with what to do. The status is 1 then, and 2 where the words are wrong."""
+with what to do."""
 import argparse
 import contextlib
 import heapq
@@ -34,6 +29,7 @@ import itertools
 import re
 import sys
 import tempfile
+from collections import namedtuple
 from dataclasses import dataclass, field
 
 from ..command_line import Refused, pairs
@@ -122,8 +118,6 @@ class Vcpu:
 
 
 # Reading
-
-
 def at_of(seconds, fraction):
     """The nanoseconds of a moment whose whole seconds and whose digits behind the point are these."""
     return int(seconds) * 1_000_000_000 + int(fraction.ljust(9, "0"))
@@ -180,7 +174,6 @@ class Reader:
         yield from (((lost,) for lost in losses) if self.last else ())
 
     def event(self, line, text):
-        """The event of a line, or None where it has none."""
         found = EVENT.fullmatch(text) or PERF.fullmatch(text)
         if not found:
             return self.other(line, text)
@@ -193,14 +186,13 @@ class Reader:
         if NO_CLOCK.fullmatch(text):
             advice = "`echo mono > trace_clock` (`trace-cmd record -C mono`), and record anew"
             raise Refused(self.path, line, f"its clock counts no time: {advice}")
-        counts, lost, begun = COUNTS.match(text), LOST.fullmatch(text), BEGUN.fullmatch(text)
         cpu, cause = None, None
-        if counts:
+        if counts := COUNTS.match(text):
             self.promised = int(counts[1])
             cause = f"{counts[2]} were written and {counts[1]} are kept" if counts[1] != counts[2] else None
-        elif lost:
+        elif lost := LOST.fullmatch(text):
             cpu, cause = int(lost[1] or lost[3]), text if lost[1] else lost[4]
-        elif begun:
+        elif begun := BEGUN.fullmatch(text):
             cause = f"processor {begun[1]} has none from before this line" if self.last else None
         elif not NO_EVENT.fullmatch(text):
             raise Refused(self.path, line, "no line of a trace buffer, of `trace-cmd report` or of `perf script`")
@@ -208,16 +200,8 @@ class Reader:
 
 
 # From events to rows
-
-
-@dataclass
-class Map:
-    """What the words say: the recording, the cores by processor, the VCPUs by thread, and their servers by name (see servers_of)."""
-
-    path: str
-    cores: dict
-    threads: dict
-    servers: dict = field(default_factory=dict)
+# what the words say: the recording, the cores by processor, the VCPUs by thread, and their servers by name (see servers_of)
+Map = namedtuple("Map", "path cores threads servers", defaults=[{}])
 
 
 class Host:
@@ -247,9 +231,9 @@ class Host:
     def vcpu(self, pid, name):
         """The VCPU of a thread, or None where the map does not have it."""
         vcpu = self.threads.get(pid) or self.threads.get(name)
-        if vcpu is not None and vcpu.pid not in (None, int(pid)):
+        if vcpu and vcpu.pid not in (None, int(pid)):
             self.refuse(f"two threads are {vcpu.name}: {vcpu.pid} and {pid}; name them by their numbers")
-        if vcpu is not None:
+        if vcpu:
             vcpu.pid = int(pid)
         return vcpu
 
@@ -272,7 +256,7 @@ class Host:
         vcpu.state = "ready"
         if vcpu.due is not None and vcpu.due <= self.event.at:
             vcpu.due = None
-        if vcpu.since is not None:
+        if vcpu.since:
             vcpu.longest_sleep = max(vcpu.longest_sleep, self.event.at - vcpu.since.at)
         if vcpu.started:
             self.row(cpu, "wake", vcpu.name)
@@ -281,27 +265,26 @@ class Host:
 
     def leave(self, vcpu, cpu):
         """Checks the thread that is switched out against what is known of its processor and of it."""
-        if cpu not in self.holders:
-            if vcpu is not None and vcpu.state is not None:
-                self.missing(f"{vcpu.name} is switched out of processor {cpu}, and had not been switched in", None)
-        elif self.holders[cpu] is not vcpu:
-            holder = self.holders[cpu]
+        holder = self.holders.get(cpu)
+        if cpu not in self.holders and vcpu and vcpu.state:
+            self.missing(f"{vcpu.name} is switched out of processor {cpu}, and had not been switched in", None)
+        if cpu in self.holders and holder is not vcpu:
             had = f"{holder.name} has" if holder else "no thread of the map has"
             self.missing(f"{had} processor {cpu}, and another thread is switched out", self.switched.get(cpu))
-        if vcpu is not None:
+        if vcpu:
             self.place(vcpu, cpu)
 
     def enter(self, vcpu, cpu):
         """Gives a processor to the thread that is switched in."""
         holder = self.holders.get(cpu)
-        if vcpu is not None:
+        if vcpu:
             self.place(vcpu, cpu)
             if vcpu.state == "asleep":
                 self.missing(f"{vcpu.name} is asleep, and is switched in: its wakeup is missing", vcpu.since)
             vcpu.state, vcpu.since, vcpu.due = "running", self.event, None
-        if vcpu is not None and vcpu.started:
+        if vcpu and vcpu.started:
             self.row(cpu, "run", vcpu.name)
-        elif holder is not None and holder.started:
+        elif holder and holder.started:
             self.row(cpu, "stop")
         self.holders[cpu] = vcpu
 
@@ -325,7 +308,7 @@ class Host:
         vcpu = self.vcpu(found[2], found[1]) if found else None
         if vcpu is None:
             return
-        if vcpu.state is not None:
+        if vcpu.state:
             self.refuse(f"a mark says that {vcpu.name} has slept from before the recording on, and it did not")
         told, period = vcpu.period, int(found[4])
         if told not in (None, period * 1000):
@@ -352,7 +335,6 @@ class Host:
                 self.start(vcpu, vcpu.due - vcpu.due % self.event.unit)
 
     def take(self, event):
-        """Takes one event."""
         self.event = event
         self.renew()
         if event.kind == "switch":
@@ -362,13 +344,11 @@ class Host:
                 self.switch(before, after, event.cpu, not state.startswith("R"))
         elif event.kind == "wakeup":
             name, pid, cpu = self.fields(WAKEUPS)
-            vcpu = self.vcpu(pid, name)
-            if vcpu is not None:
+            if vcpu := self.vcpu(pid, name):
                 self.wake(vcpu, int(cpu))
         elif event.kind == "move":
             name, pid, cpu, other = self.fields(MIGRATIONS)
-            vcpu = self.vcpu(pid, name)
-            if vcpu is not None and vcpu.started:
+            if (vcpu := self.vcpu(pid, name)) and vcpu.started:
                 self.refuse(f"{vcpu.name} migrates from processor {cpu} to {other}")
         elif event.kind == "mark":
             self.mark(event.text)
@@ -378,7 +358,6 @@ class Host:
 
 
 def why_not(vcpu):
-    """Why a thread did not start, and what to do."""
     if vcpu.pid is None:
         return "no event is of it"
     if vcpu.fresh == 0:
@@ -495,17 +474,13 @@ def translate(lines, named, rows, since=0, until=None, longest=False, missing=la
     for event in reader.events():
         if stopped is not None or event.at < since or until is not None and event.at > until:
             continue
-        gap = None
-        if event.kind == "lost":
-            gap = Gap(event.line, event.text, host and host.seen.get(event.cpu))
-        else:
+        try:
+            if event.kind == "lost":
+                raise Gap(event.line, event.text, host and host.seen.get(event.cpu))
             host = host or begin(event)
             rows.check(event.at, event.line)
-            try:
-                host.take(event)
-            except Gap as found:
-                gap = found
-        if gap:
+            host.take(event)
+        except Gap as gap:
             missing(gap)
             if host and gap.sure:
                 stretches[-1].close(gap.sure)
@@ -531,8 +506,6 @@ def translate(lines, named, rows, since=0, until=None, longest=False, missing=la
 
 
 # The words
-
-
 def moment(text):
     found = SECONDS.fullmatch(text)
     if not found:
@@ -541,13 +514,11 @@ def moment(text):
 
 
 def shown(at):
-    """A moment as the recording has it."""
     seconds, fraction = divmod(at, 1_000_000_000)
     return f"{seconds}.{fraction:09d}" if fraction % 1000 else f"{seconds}.{fraction // 1000:06d}"
 
 
 def map_of(given):
-    """What the words and the system file say."""
     try:
         cores, threads = pairs(given.cpu, "--cpu", "last"), pairs(given.thread, "--thread", "last")
     except Refused as refused:
@@ -570,9 +541,8 @@ def server(period, budget, tick):
 def servers_of(path, names, tick=TICK):
     """The server of each VCPU of these names, by a system file."""
     parts = {part.name: server(part.period, part.budget, tick) for part in parts_of(path)[1]}
-    for name in names:
-        if name not in parts:
-            raise Refused(path, None, f"it has no part {name}")
+    if unknown := [name for name in names if name not in parts]:
+        raise Refused(path, None, f"it has no part {unknown[0]}")
     return parts
 
 
@@ -590,7 +560,6 @@ def add_words(parser):
     length = parser.add_mutually_exclusive_group()
     length.add_argument("--any-length", action="store_true", help="the trace may pass 1000 seconds, for tools/host split")
     length.add_argument("--as-it-comes", action="store_true", help="writes rows while it is read, of any length, for tools/host split")
-    parser.set_defaults(refuse=parser.error)
 
 
 def say(given, text, line=""):

@@ -8,13 +8,12 @@ Without RECORD it looks at each thread of this machine. RECORD is the text of th
 Each processor to which such threads are bound becomes a core, and each thread a part on it, with its runtime as the budget. A part is
 called as its thread, with `-` for each sign that no name has, and the thread's number behind it where that would not tell it from others;
 or as --name says. A thread that may use what others leave (SCHED_FLAG_RECLAIM) gets `extra = true`; `chrt` does not print that, so of a
-RECORD --extra says it. How the threads of a guest are ordered and what they ask for is left open, by lines that say how to fill them, and
-`rtadmit admit` refuses the file until that is there. A thread of which nothing is known but its runtime gets one slot a second by
---stand-in, and --without leaves one out; the file says so.
+RECORD --extra says it. What the threads of a guest ask for is left open, and `rtadmit admit` refuses the file until that is there. A
+thread of which nothing is known but its runtime gets one slot a second by --stand-in.
 
-Refused, by the name of the thread and, where there is one, the line, and nothing written: a deadline below the period, since a part has
-its budget by the end of its period; a runtime or a period that is no whole number of microseconds; a thread that may use more than one
-processor; a record that lacks something of a thread, or has other lines. The status is 1 then, and 2 where the words are wrong."""
+Refused, by the name of the thread and, where there is one, the line, and nothing written: a deadline below the period; a runtime or a
+period that is no whole number of microseconds; a thread that may use more than one processor; a record that lacks something of a thread,
+or has other lines."""
 import ctypes
 import os
 import platform
@@ -29,18 +28,17 @@ from ..system_file import LIMIT, NAME, lines_of, part_text, system_text
 SCHED_DEADLINE, RECLAIM = 6, 2
 GETATTR = {"x86_64": 315, "aarch64": 275, "riscv64": 275}
 THREAD = re.compile(r"thread ([0-9]{1,9})(?: (.*))?")
-POLICY = re.compile(r"pid ([0-9]{1,9})'s current scheduling policy: (\w+)(?:\|\S+)?")
-PRIORITY = re.compile(r"pid ([0-9]{1,9})'s current scheduling priority: [0-9]+")
-TIMES = re.compile(r"pid ([0-9]{1,9})'s current runtime/deadline/period parameters: ([0-9]{1,19})/([0-9]{1,19})/([0-9]{1,19})")
-AFFINITY = re.compile(r"pid ([0-9]{1,9})'s current affinity list: ([0-9,-]+)")
-HEAD = [
-    "The threads of a Linux host under SCHED_DEADLINE, by tools/host from-linux. All times are microseconds. What the kernel does not",
-    "know is open: `rtadmit admit` refuses this file until each part has its sched and a task. Leave the budget of a part out, and the",
-    "program computes the least that is enough for the tasks that you wrote down. Keep that of a stand-in: its task is invented.",
-]
+FORMS = {key: re.compile(f"pid ([0-9]{{1,9}})'s current {form}") for key, form in {
+    "policy": r"scheduling policy: (\w+)(?:\|\S+)?",
+    "priority": "scheduling priority: ([0-9]+)",
+    "times": "runtime/deadline/period parameters: ([0-9]{1,19})/([0-9]{1,19})/([0-9]{1,19})",
+    "affinity": "affinity list: ([0-9,-]+)",
+}.items()}
+ABOUT = "The threads of a Linux host under SCHED_DEADLINE, by tools/host from-linux"
 HINT = """no thread reserves time (SCHED_DEADLINE). To begin, write a file with a core for each processor and a part for each
 thread that is to reserve time, as examples/linux/tick.toml (those of KVM are called CPU 0/KVM and so on: ps -eLo tid,comm), without
-budgets; ask rtadmit admit, and let tools/host to-linux print the calls that reserve what it computes (docs/use/guide.md, "Linux and KVM")"""
+budgets; ask rtadmit admit, and let tools/host to-linux print the calls that reserve what it computes (docs/use/guide.md, "Linux \
+and KVM")"""
 
 
 @dataclass
@@ -60,28 +58,21 @@ class Thread:
 
 
 # What is recorded
-
-
 def read_record(path):
-    """The threads of a record that are under SCHED_DEADLINE."""
     threads = {}
     for line, text in lines_of(path):
-        head, found = THREAD.fullmatch(text), None
-        if head:
+        if head := THREAD.fullmatch(text):
             if int(head[1]) in threads:
                 raise Refused(path, line, f"thread {head[1]} stands twice")
             threads[int(head[1])] = Thread(int(head[1]), head[2] or "", line)
             continue
-        for key, form in (("policy", POLICY), (None, PRIORITY), ("times", TIMES), ("affinity", AFFINITY)):
-            found = form.fullmatch(text)
-            if found:
-                break
+        key, found = next(((key, found) for key, form in FORMS.items() if (found := form.fullmatch(text))), (None, None))
         if not found:
             raise Refused(path, line, "no line of a record: neither `thread TID NAME`, nor of `chrt -p`, nor of `taskset -cp`")
         thread = threads.get(int(found[1]))
         if thread is None:
             raise Refused(path, line, f"no line `thread {found[1]} NAME` is above")
-        if key is not None:
+        if key != "priority":
             setattr(thread, key, tuple(map(int, found.groups()[1:])) if key == "times" else found[2])
         thread.reclaims |= key == "policy" and "RECLAIM" in text
     for thread in threads.values():
@@ -91,17 +82,10 @@ def read_record(path):
 
 
 # What this machine has
-
-
 def list_of(cpus):
     """The text of a set of processors, as taskset prints it."""
-    spans = []
-    for cpu in sorted(cpus):
-        if spans and spans[-1][1] == cpu - 1:
-            spans[-1][1] = cpu
-        else:
-            spans.append([cpu, cpu])
-    return ",".join(str(first) if first == last else f"{first}-{last}" for first, last in spans)
+    firsts, lasts = ([cpu for cpu in sorted(cpus) if cpu + step not in cpus] for step in (-1, 1))
+    return ",".join(str(first) if first == last else f"{first}-{last}" for first, last in zip(firsts, lasts))
 
 
 def reservation(libc, number, tid):
@@ -114,7 +98,6 @@ def reservation(libc, number, tid):
 
 
 def read_machine():
-    """The threads of this machine that are under SCHED_DEADLINE."""
     number = GETATTR.get(platform.machine())
     if sys.platform != "linux" or number is None:
         raise Refused("this machine", None, f"no Linux of a known kind ({platform.machine()}): give a RECORD")
@@ -133,8 +116,6 @@ def read_machine():
 
 
 # The file
-
-
 def plain(name):
     """A thread's name as a system file may have it, or nothing."""
     return re.sub(r"[^A-Za-z0-9_-]", "-", name) if re.match("[A-Za-z]", name) else ""
@@ -147,18 +128,17 @@ def names_of(threads, given):
     for thread in threads:
         own = plain(thread.name)
         alone = NAME.fullmatch(own) and taken.count(own) == 1 and not re.fullmatch("cpu[0-9]+", own)
-        names[thread.tid] = given.get(thread.tid) or (own if alone else f"{own or 'thread'}-{thread.tid}")
+        names[thread.tid] = given.get(thread.tid, own if alone else f"{own or 'thread'}-{thread.tid}")
     return names
 
 
 def wrong_with(thread):
-    """What keeps a thread from being a part, or None."""
     runtime, deadline, period = thread.times
-    odd = next(((what, value) for what, value in (("runtime", runtime), ("period", period)) if value % 1000), None)
     if deadline < period:
         return f"has a deadline of {deadline} ns, below its period of {period}: a part has its budget by the end of its period"
-    if odd:
-        return f"has a {odd[0]} of {odd[1]} ns, which is no whole number of microseconds"
+    for what, value in (("runtime", runtime), ("period", period)):
+        if value % 1000:
+            return f"has a {what} of {value} ns, which is no whole number of microseconds"
     if not 1000 <= runtime <= period <= deadline or period > LIMIT * 1000:
         return f"has not 1 <= runtime <= period <= {LIMIT} microseconds"
     if not thread.affinity.isdecimal():
@@ -167,11 +147,10 @@ def wrong_with(thread):
 
 
 def text_of(where, threads, given, stand_ins, left_out, extras):
-    """The system file of the threads."""
     for tid in [*given, *left_out]:
         if tid not in {thread.tid for thread in threads}:
             raise Refused(where, None, f"no thread {tid} reserves time, and a word tells of it")
-    head = HEAD + [f"{thread.name!a}, thread {thread.tid}, is left out." for thread in threads if thread.tid in left_out]
+    more = [f"{thread.name!a}, thread {thread.tid}, is left out." for thread in threads if thread.tid in left_out]
     threads = [thread for thread in threads if thread.tid not in left_out]
     if not threads:
         raise Refused(where, None, HINT)
@@ -187,7 +166,7 @@ def text_of(where, threads, given, stand_ins, left_out, extras):
         about = f"thread {thread.tid}, which is called {thread.name!a}"
         extra = thread.reclaims or name in extras
         parts.append(part_text(about, name, f"cpu{int(thread.affinity)}", period // 1000, runtime // 1000, extra, name in stand_ins))
-    return system_text(head, [f"cpu{core}" for core in sorted({int(thread.affinity) for thread in threads})], parts)
+    return system_text(ABOUT, "the kernel", more, (int(thread.affinity) for thread in threads), parts)
 
 
 def add_words(parser):

@@ -10,10 +10,10 @@ ran there, and the event (docs/use/audit.md). These lines matter, for the VCPUs 
     runstate_change d1v0 runnable->blocked, ..     block; blocked is `blocked` or `offline`
     runstate_change d1v0 blocked->runnable         wake
 
-Rows begin with a VCPU's start: what is known of it there, from the lines before and after, is told at that moment. A replenishment
-that comes with a wake-up may come late in a period, since RTDS gives a VCPU that slept past the end of its period its budget when it
-wakes. So the start is the first replenishment of a VCPU that has run or was preempted since it last woke; where there is none, it is
-the first one, and standard error says so. The trace counts nanoseconds from the first start, and ends with the last line.
+Rows begin with a VCPU's start. A replenishment that comes with a wake-up may come late in a period, since RTDS gives a VCPU that slept
+past the end of its period its budget when it wakes. So the start is the first replenishment of a VCPU that has run or was preempted since
+it last woke; where there is none, it is the first one, and standard error says so. The trace counts nanoseconds from the first start, and
+ends with the last line.
 
 With --system the budget that each replenishment tells is compared with that of the part in FILE, the given one or else the one that the
 program computes for it: an audit with another budget than the host has says nothing of the host.
@@ -21,7 +21,7 @@ program computes for it: an audit with another budget than the host has says not
 Refused, with the line, and nothing written: lost records; changes of a VCPU that do not follow from the ones before; a VCPU that
 runs on two processors, or on one that is not in the map; two VCPUs that have one processor; time that falls on a processor or passes
 what a trace holds; a VCPU without a replenishment; a change or a replenishment in another form; with --system, a budget that is another
-one than the part's, or that a line does not tell. Other lines are passed over. The status is 1 then, and 2 where the words are wrong."""
+one than the part's, or that a line does not tell."""
 import re
 import sys
 from dataclasses import dataclass, field
@@ -77,19 +77,17 @@ def event_of(path, line, text, known):
             raise Refused(path, line, "no line of `xenalyze --dump-all`: no moment with nine digits, or no processor")
         return None
     event = Event(line, int(found[1]) * 1_000_000_000 + int(found[2]), len(found[3]), "")
-    change = CHANGE.fullmatch(found[5])
-    if found[5].startswith("runstate_change") and not change:
-        raise Refused(path, line, "no text of a runstate_change")
-    if change and change[1] not in known and change[3] == "running":
-        event.new = RUNNING
+    change, replenished = CHANGE.fullmatch(found[5]), REPLENISHED.fullmatch(found[5])
+    kind = next((kind for kind in ("runstate_change", "rtds:repl_budget") if found[5].startswith(kind)), None)
+    if kind and not (change or replenished):
+        raise Refused(path, line, f"no text of a {kind}")
     if change and change[1] in known:
         if change[2] not in STATES or change[3] not in STATES:
             raise Refused(path, line, f"{change[2]}->{change[3]} are no states of a VCPU that runs")
         event.vcpu, event.old, event.new = change[1], STATES[change[2]], STATES[change[3]]
-    replenished = REPLENISHED.fullmatch(found[5])
-    if found[5].startswith("rtds:repl_budget") and not replenished:
-        raise Refused(path, line, "no text of a rtds:repl_budget")
-    if replenished and replenished[1] in known:
+    elif change and change[3] == "running":
+        event.new = RUNNING
+    elif replenished and replenished[1] in known:
         budget = BUDGET.search(found[5])
         event.vcpu, event.budget_ns = replenished[1], budget and int(budget[1])
     return event
@@ -97,19 +95,17 @@ def event_of(path, line, text, known):
 
 def read(path, known):
     """The events of the map in order of time, and the moment of the last line."""
-    events, last, times = [], 0, {}
+    events, times = [], {}
     for line, text in lines_of(path):
         event = event_of(path, line, text, known)
-        if event is None:
-            continue
-        if event.at < times.get(event.cpu, 0):
+        if event and event.at < times.get(event.cpu, 0):
             raise Refused(path, line, f"time falls on processor {event.cpu}")
-        times[event.cpu] = event.at
-        last = max(last, event.at)
-        events += [event] if event.vcpu or event.new else []
+        if event:
+            times[event.cpu] = event.at
+            events += [event] * bool(event.vcpu or event.new)
     if not times:
         raise Refused(path, None, "no line of `xenalyze --dump-all`")
-    return sorted(events, key=lambda event: event.at), last
+    return sorted(events, key=lambda event: event.at), max(times.values())
 
 
 class Host:
@@ -123,7 +119,6 @@ class Host:
             self.learn(event, self.vcpus.get(event.vcpu), self.holders.get(event.cpu))
 
     def learn(self, event, vcpu, holder):
-        """Goes through an event: the processor, the first state and the replenishments of its VCPU."""
         if vcpu is None:
             if holder is not None:
                 self.refuse(event, f"{holder.key} has processor {event.cpu}, and another VCPU runs on it: a line is missing")

@@ -3,16 +3,14 @@
     xl sched-rtds -v all >SCHED; xl vcpu-list >VCPUS
 
 Each processor to which VCPUs are pinned becomes a core, and each VCPU a part on it: VCPU 0 of the domain `audio` is `audio-0`, with
-the period, the budget and the extra time that it has. What Xen does not know is left open, by lines that say how to fill them: how the
-guest orders its threads, and what they ask for. `rtadmit admit` refuses the file until that is there. A VCPU of which nothing is
-known but its budget gets one slot a second by --stand-in; keep its budget in the file, since the least one for that slot is no answer about
-the VCPU. PART is the name in the file, as Domain-0-0. --name gives a domain another name in the file, and the file says so, for
-tools/host to-xl. Both may be given several times; quote a word with a blank: --name 'vm 3=vm3'.
+the period, the budget and the extra time that it has. What its threads ask for is left open, and `rtadmit admit` refuses the file until
+that is there. A VCPU of which nothing is known but its budget gets one slot a second by --stand-in; keep its budget in the file, since the
+least one for that slot is no answer about the VCPU. PART is the name in the file, as Domain-0-0. --name gives a domain another name in
+the file, and the file says so, for tools/host to-xl; quote a word with a blank: --name 'vm 3=vm3'.
 
 A VCPU that is offline is left out, and the file says so. Refused, with the file and the line, and nothing written: a VCPU that is not
 pinned to one processor, or stands in only one of the texts, and a domain whose name the file cannot have, all such at once; a text without
-the line `Cpupool ..: sched=RTDS`, since it may lack other domains of the pool; and any line of no such text. The status is 1 then, and 2
-where the words are wrong."""
+the line `Cpupool ..: sched=RTDS`, since it may lack other domains of the pool; and any line of no such text."""
 import re
 import shlex
 from dataclasses import dataclass
@@ -26,11 +24,7 @@ DOMAINS_HEAD = re.compile(r"Name\s+ID\s+Period\s+Budget.*")
 SCHED_ROW = re.compile(r"(\S.*?)\s+([0-9]{1,9})\s+([0-9]{1,9})\s+([0-9]{1,10})\s+([0-9]{1,10})(?:\s+(yes|no))?")
 VCPUS_HEAD = re.compile(r"Name\s+ID\s+VCPU\s+CPU\s+State\s+Time\(s\)\s+Affinity \(Hard / Soft\)")
 VCPUS_ROW = re.compile(r"(\S.*?)\s+([0-9]{1,9})\s+([0-9]{1,9})\s+([0-9]{1,9}|-)\s+([a-z-]{3})\s+([0-9.]+)\s+(\S+) / (\S+)")
-HEAD = [
-    "What `xl sched-rtds -v all` and `xl vcpu-list` printed, by tools/host from-xl. All times are microseconds. What Xen does not know is",
-    "open: `rtadmit admit` refuses this file until each part has its sched and a task. Leave the budget of a part out, and the program",
-    "computes the least that is enough for the tasks that you wrote down. Keep that of a stand-in: its task is invented.",
-]
+ABOUT = "What `xl sched-rtds -v all` and `xl vcpu-list` printed, by tools/host from-xl"
 NAMED = "tools/host to-xl reads from here which domain has another name in this file:"
 
 
@@ -95,15 +89,13 @@ class Host:
         self.sched, self.vcpus, self.names = sched, vcpus, names
         self.servers, self.places = read_sched(sched), rows(vcpus, VCPUS_HEAD, VCPUS_ROW)
         self.parts, self.domains = {}, {}
-        for name in names:
-            if name not in {vcpu.domain for vcpu in self.servers.values()}:
-                raise Refused(sched, None, f"no VCPU of a domain {name}, which --name tells")
+        if unknown := [name for name in names if name not in {vcpu.domain for vcpu in self.servers.values()}]:
+            raise Refused(sched, None, f"no VCPU of a domain {unknown[0]}, which --name tells")
 
     def called(self, vcpu):
         return self.names.get(vcpu.domain, vcpu.domain)
 
     def part(self, vcpu):
-        """The name of a VCPU in the file."""
         return f"{self.called(vcpu)}-{vcpu.number}"
 
     def place(self, key, vcpu):
@@ -121,7 +113,6 @@ class Host:
                 yield Refused(self.vcpus, line, f"{cause}: xl vcpu-pin {shlex.quote(vcpu.domain)} {vcpu.number} CPU")
 
     def wrong(self, key, vcpu):
-        """What is wrong with a VCPU."""
         yield from self.place(key, vcpu)
         name, short = self.part(vcpu), self.called(vcpu)
         if not NAME.fullmatch(name):
@@ -136,20 +127,19 @@ class Host:
 
     def text(self, stand_ins):
         refuse_all(cause for key, vcpu in self.servers.items() for cause in self.wrong(key, vcpu))
-        for name in stand_ins:
-            if name not in self.parts:
-                raise Refused(self.sched, None, f"no part is called {name}; --stand-in wants the part, as {next(iter(self.parts))}")
+        if unknown := [name for name in stand_ins if name not in self.parts]:
+            raise Refused(self.sched, None, f"no part is called {unknown[0]}; --stand-in wants the part, as {next(iter(self.parts))}")
         online = {name: vcpu for name, vcpu in self.parts.items() if vcpu.is_online}
         if not online:
             raise Refused(self.vcpus, None, "every VCPU is offline")
-        head = HEAD + [f"{name} is offline and left out." for name in self.parts if name not in online]
+        more = [f"{name} is offline and left out." for name in self.parts if name not in online]
         if self.names:
-            head += [NAMED, *(f"--name {shlex.quote(f'{domain}={name}')}" for domain, name in self.names.items())]
+            more += [NAMED, *(f"--name {shlex.quote(f'{domain}={name}')}" for domain, name in self.names.items())]
         parts = []
         for name, vcpu in online.items():
             about = f"VCPU {vcpu.number} of the domain {vcpu.domain}"
             parts.append(part_text(about, name, f"cpu{int(vcpu.processors)}", vcpu.period, vcpu.budget, vcpu.extra, name in stand_ins))
-        return system_text(head, [f"cpu{core}" for core in sorted({int(vcpu.processors) for vcpu in online.values()})], parts)
+        return system_text(ABOUT, "Xen", more, (int(vcpu.processors) for vcpu in online.values()), parts)
 
 
 def add_words(parser):

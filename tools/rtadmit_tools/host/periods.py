@@ -8,33 +8,26 @@ more, it prints the least budget and its share of the period, rounded to million
 
 At a period at which no budget passes the line ends with `nothing`. The last line has the best period of the whole range, also where
 not all of its periods are printed. The budgets are those of `choose FILE PART PERIOD PERIOD` and the best is that of `choose FILE PART LOW
-HIGH`; no share is compared here. OUT gets a picture of the lines, with the best marked, and with what the tasks ask for in the long run,
-which no share can be below.
-
-The status is 0, 1 where the program tells no periods, with its answer on standard error, and 2 where the words are wrong."""
+HIGH`. OUT gets a picture of the lines, with the best marked, and with what the tasks ask for in the long run, which no share can be below.
+Where the program tells no periods, its answer is the refusal."""
 import concurrent.futures
 import os
 import pathlib
 import re
-from dataclasses import dataclass
+from collections import namedtuple
 
 from ..command_line import Refused, counted
 from ..formulas import SCHEDS
 from ..program import add_program, program_of
-from ..svg import GREY, Canvas, Plot
-from .curves import ASKED, ENOUGH, HEIGHT, LESS, PLOT, TOP, read_leaf
+from ..svg import Canvas, Plot
+from .curves import ASKED, DASHES, ENOUGH, HEIGHT, LESS, PLOT, TOP, read_leaf
 
 BEST_LINE = re.compile(r"verdict=yes\nchoose \S+ period=(\d+) budget=(\d+)\n")
 NOTHING_LINE = re.compile(r"verdict=no\nnothing over=\d+ wide=\d+\n")
-DASHES = 'stroke-dasharray="7 4"'
 
 
-@dataclass
-class Need:
+class Need(namedtuple("Need", "period budget")):
     """What a leaf needs at a period: its least budget, or None where none passes."""
-
-    period: int
-    budget: int | None
 
     @property
     def share(self):
@@ -76,14 +69,11 @@ def needs_of(program, path, name, low, high, most):
 
 
 def picture_of(leaf, needs, best):
-    """Shares over periods."""
     asked = sum(task.work / task.period for task in leaf.tasks)
     twentieths = int(max([need.share for need in needs if need.budget is not None] + [asked]) * 20) + 2
     canvas, low = Canvas(), needs[0].period
     plot = Plot(canvas, 72, TOP, PLOT, HEIGHT, (low, max(needs[-1].period, low + 1)), (0, twentieths / 20))
-    ring = lambda x, y: canvas.circle(x, y, 4.5, "white", f'stroke="{ENOUGH}" stroke-width="2"')
-    canvas.text(12, 24, leaf.name, size=16, more='font-weight="bold" font-family="monospace"')
-    canvas.text(12, 44, f"least share of the processor by period; {SCHEDS[leaf.sched]}", fill=GREY)
+    canvas.title(leaf.name, f"least share of the processor by period; {SCHEDS[leaf.sched]}")
     plot.scales(((part / 20, f"{part / 20:.2f}") for part in range(twentieths + 1)), "period in slots (µs)")
     canvas.line(plot.left, plot.y(asked), plot.left + PLOT, plot.y(asked), ASKED, 1.6, DASHES)
     for need in needs:
@@ -92,7 +82,7 @@ def picture_of(leaf, needs, best):
         else:
             canvas.line(plot.x(need.period), plot.top, plot.x(need.period), plot.top + 8, LESS, 2)
     if best:
-        ring(plot.x(best.period), plot.y(best.share))
+        canvas.ring(plot.x(best.period), plot.y(best.share), ENOUGH)
     plot.frame()
     y = plot.bottom + 56
     if any(need.budget is None for need in needs):
@@ -103,7 +93,7 @@ def picture_of(leaf, needs, best):
     canvas.text(52, y + 4, f"what the tasks ask for in the long run: {asked:.6f}")
     if best:
         y += 20
-        ring(28, y)
+        canvas.ring(28, y, ENOUGH)
         canvas.text(52, y + 4, f"best: a budget of {best.budget} in a period of {best.period}, {best.share:.6f}")
     return canvas.whole(round(max(canvas.reach + 12, plot.right)), y + 20)
 

@@ -3,20 +3,17 @@
 A THREAD is NAME@CPU=RUNTIME/PERIOD, which runs whenever it is let, or NAME@CPU=RUNTIME/PERIOD/WORK, which works that long and then sleeps
 to its next period. With --random it works as guests do that halt: for a random time up to WORK, and then it sleeps for a random time up to
 two periods, in step with nothing; a SEED gives the same times again. All times are microseconds. OUT gets the text of the kernel's trace
-buffer: the switches and wakeups of these threads, which tools/host from-ftrace turns into a trace.
+buffer: the switches and wakeups of these threads, which tools/host from-ftrace turns into a trace (docs/use/audit.md).
 
-On each core runs a filler of the lowest priority, so that no switch is from the idle thread, and marks in the buffer say that each thread
-slept, with its time reserved, and when the recording was stopped (docs/use/audit.md). A recording in which a switch is missing all the same, by
-the rules of tools/host from-ftrace, is made again, up to N times in all; where the last one has a gap too it is written, and standard
-error tells the line.
-
-Root is needed. Everything is put back as it was, also where the recording fails or is stopped (SIGINT, SIGTERM, SIGHUP); nothing is
-written then. The status is 0; 1 where OUT can't be written; 2 where the words are wrong; 3 where the machine does not allow the recording,
-with the cause on standard error; and 128 + the signal where it was stopped."""
+A recording in which a switch is missing, by the rules of tools/host from-ftrace, is made again, up to N times in all; where the last one
+has a gap too it is written, and standard error tells the line. Root is needed. Everything is put back as it was, also where the recording
+fails or is stopped (SIGINT, SIGTERM, SIGHUP); nothing is written then. The status is 1 where OUT can't be written; 3 where the machine
+does not allow the recording, with the cause on standard error; and 128 + the signal where it was stopped."""
 import argparse
 import contextlib
 import ctypes
 import os
+import pathlib
 import platform
 import random
 import re
@@ -25,9 +22,9 @@ import struct
 import sys
 import tempfile
 import time
-from dataclasses import dataclass
+from collections import namedtuple
 
-from ..command_line import Refused
+from ..command_line import Refused, ended
 from .from_ftrace import Map, Rows, translate
 
 REFUSED = 3
@@ -49,15 +46,8 @@ class Stopped(Exception):
     """A signal asked for an early end: its number."""
 
 
-@dataclass
-class Thread:
+class Thread(namedtuple("Thread", "name cpu runtime period work")):
     """A thread to record: its reservation, and its work in each period where it sleeps. Microseconds."""
-
-    name: str
-    cpu: int
-    runtime: int
-    period: int
-    work: int | None
 
     def reserve(self):
         """Puts the caller under SCHED_DEADLINE. Answers 0 or the number of the error."""
@@ -68,7 +58,6 @@ class Thread:
         return 0 if LIBC.syscall(number, 0, wanted, 0) == 0 else ctypes.get_errno()
 
     def asleep_mark(self, pid):
-        """The mark that says that the thread sleeps with its time reserved, and has done so for longer than its period."""
         return f"asleep comm={self.name} pid={pid} cpu={self.cpu} runtime={self.runtime} period={self.period}"
 
     def random_times(self, seed):
@@ -79,16 +68,15 @@ class Thread:
 
     def live(self, start, seed):
         """Works, from a moment in nanoseconds on, and sleeps where it has a work: to its next period, or for random times."""
-        if self.work is not None and seed is not None:
-            for work, sleep in self.random_times(seed):
-                spend(work)
-                time.sleep(sleep / 1e6)
-        while self.work is not None:
+        while self.work is None:
+            pass
+        for work, sleep in self.random_times(seed) if seed is not None else ():
+            spend(work)
+            time.sleep(sleep / 1e6)
+        while True:
             spend(self.work)
             start += self.period * 1000
             time.sleep(max(0, start - time.monotonic_ns()) / 1e9)
-        while True:
-            pass
 
 
 def thread_of(text):
@@ -112,8 +100,6 @@ def spend(microseconds):
 
 
 # Files of the kernel
-
-
 def read(path):
     with open(path) as file:
         return file.read().strip()
@@ -160,15 +146,10 @@ def change(stack, path, text):
 
 
 # The core's own cpuset
-
-
 def mounted(mounts, kind, option=None):
     """Where a filesystem of a kind is mounted, by the text of /proc/mounts."""
-    for line in mounts.splitlines():
-        _, folder, found, options = line.split()[:4]
-        if found == kind and (option is None or option in options.split(",")):
-            return folder
-    return None
+    rows = (line.split()[1:4] for line in mounts.splitlines())
+    return next((folder for folder, found, options in rows if found == kind and option in (None, *options.split(","))), None)
 
 
 def cpus_of(text):
@@ -180,9 +161,9 @@ def cpus_of(text):
 def own_cores(stack, mounts, cpus):
     """Gives each processor a cpuset of its own. Answers the file that takes a thread's id, by processor."""
     first, second = mounted(mounts, "cgroup", "cpuset"), mounted(mounts, "cgroup2")
-    if first is not None:
+    if first:
         return own_cores_first(stack, first, cpus)
-    if second is not None and "cpuset" in read(f"{second}/cgroup.controllers").split():
+    if second and "cpuset" in read(f"{second}/cgroup.controllers").split():
         return own_cores_second(stack, second, cpus)
     raise NotAllowed("no cpuset controller is mounted, neither of the first nor of the second version of control groups")
 
@@ -218,8 +199,6 @@ def own_cores_second(stack, root, cpus):
 
 
 # The trace buffer
-
-
 def mount_tracefs(stack, mounts):
     """Where the trace filesystem is; it is mounted for the time where it is nowhere."""
     folder = mounted(mounts, "tracefs")
@@ -233,7 +212,6 @@ def mount_tracefs(stack, mounts):
 
 
 def own_buffer(stack, tracefs):
-    """A trace buffer of its own, that records nothing yet."""
     folder = f"{tracefs}/instances/{PREFIX}"
     make(stack, folder)
     for name, text in (("tracing_on", 0), ("buffer_size_kb", BUFFER_KB), ("trace_clock", "mono")):
@@ -242,7 +220,6 @@ def own_buffer(stack, tracefs):
 
 
 def choose_events(buffer, pids):
-    """The switches from or to the threads, and their wakeups."""
     switch = " || ".join(f"prev_pid=={pid} || next_pid=={pid}" for pid in pids)
     wakeup = " || ".join(f"pid=={pid}" for pid in pids)
     for event, chosen in (("sched_switch", switch), ("sched_wakeup", wakeup), ("sched_migrate_task", wakeup)):
@@ -251,12 +228,10 @@ def choose_events(buffer, pids):
 
 
 def mark(buffer, text):
-    """Writes a line of the recorder's own into the buffer, among the events."""
     write(f"{buffer}/trace_marker", f"rtadmit: {text}\n")
 
 
 def whole(buffer):
-    """The text of the buffer, which must hold each event that it was handed."""
     for folder in sorted(os.listdir(f"{buffer}/per_cpu")):
         for line in read(f"{buffer}/per_cpu/{folder}/stats").splitlines():
             what, _, count = line.partition(": ")
@@ -266,8 +241,6 @@ def whole(buffer):
 
 
 # The processes of the recorder's: they end with it, and by nothing else
-
-
 def child(stack, live):
     """A process that lives so, and is ended with the stack: its number."""
     pid = os.fork()
@@ -337,13 +310,10 @@ class Child:
         check_state(self.pid, "S", f"{self.thread.name} does not sleep before the recording")
 
     def start(self):
-        """Wakes the thread, and tells it the moment."""
         os.write(self.go, time.monotonic_ns().to_bytes(8, "little"))
 
 
 # The recording
-
-
 class Pause:
     """Waits, and ends early by an exception where a signal asked for it. A signal acts nowhere else, so no step is cut."""
 
@@ -403,7 +373,6 @@ def record(threads, seconds, seed, pause):
 
 
 def gaps_of(text, threads):
-    """The gaps of a recording."""
     gaps, named = [], Map("", {thread.cpu: f"cpu{thread.cpu}" for thread in threads}, {thread.name: thread.name for thread in threads})
     with tempfile.TemporaryFile("w+") as file, contextlib.suppress(Refused):
         translate(enumerate(text.splitlines(), 1), named, Rows("", file), missing=gaps.append)
@@ -423,7 +392,6 @@ def record_whole(given, pause):
 
 
 def several(text):
-    """A whole number from 1 on."""
     if not text.isdecimal() or int(text) == 0:
         raise argparse.ArgumentTypeError(f"{text!r} is no whole number from 1 on")
     return int(text)
@@ -435,7 +403,6 @@ def add_words(parser):
     parser.add_argument("--seconds", type=float, default=2, metavar="S", help="for how long; 2 where it is not said")
     parser.add_argument("--random", type=int, metavar="SEED", help="threads with a WORK work and sleep as guests that halt do")
     parser.add_argument("--tries", type=several, default=8, metavar="N", help="how often to record at the most, until no event is missing")
-    parser.set_defaults(refuse=parser.error)
 
 
 def run(given):
@@ -446,10 +413,8 @@ def run(given):
     except Stopped as stopped:
         print("stopped, and nothing is written", file=sys.stderr)
         return 128 + stopped.args[0]
-    try:
-        with open(given.out, "w") as file:
-            file.write(text)
-    except OSError as fault:
-        print(f"{fault.filename}: {fault.strerror}", file=sys.stderr)
-        return 1
-    return 0
+
+    def write_out():
+        pathlib.Path(given.out).write_text(text)
+
+    return ended(write_out)

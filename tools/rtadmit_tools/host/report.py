@@ -3,17 +3,14 @@
 FILE is a system file. The page has the verdict in a sentence, which is of VCPUs that do not sleep, and beside it what `isolate` says of
 those that do; the cores, with the shares of what stands on them; a table of the guests, with how much their work may grow (`slack`), their
 worst response (`responses`) and whether they keep their budget when others block; and of each guest with tasks the picture of tools/host
-curves. A guest with the one invented task of from-xl or from-linux is marked as a stand-in. On a no it has what tools/host why says, and
-the budgets that the program computes for each guest by itself. With TRACE it has the verdict of `audit`, of which guests that says
-nothing, what `tally` counted, and the picture of tools/host timeline, around the broken period where there is one.
+curves. On a no it has what tools/host why says, and the budgets that the program computes for each guest by itself. With TRACE it has the
+verdict of `audit`, of which guests that says nothing, what `tally` counted, and the picture of tools/host timeline, around the broken
+period where there is one.
 
 Every verdict, budget and number of these columns is the program's; a command that it does not have is told as not asked. The foot has the
 words that were asked, the sums of the program and the files, and the commit and the logic that the gate's line of the program's sum tells,
 or that no such line is known. The same answers give the same page. Refused is a gate that tells another sum, and a program that says of
-itself that it is unproved; that is taken by --unproved, and the page begins with it.
-
-The status is 0, also where the verdict is a no; 1 where there is no page, with the cause on standard error, and 2 where the words are
-wrong."""
+itself that it is unproved; that is taken by --unproved, and the page begins with it. The status is 0 also where the verdict is a no."""
 import pathlib
 import re
 from fractions import Fraction
@@ -112,12 +109,10 @@ class Asked:
         return answer
 
     def lines(self, kinds, command, *words, always=False):
-        """The lines of some kinds in the answer to a command."""
         answer = self.ask(command, *words, always=always)
         return answer.told(*kinds.split()) if answer else []
 
     def share(self, name):
-        """The share of a part, or None where no budget is told."""
         given = self.system.nodes[name].budget
         budget = self.budgets[name][0] if name in self.budgets else given
         return None if budget is None else Fraction(budget, self.system.nodes[name].period)
@@ -136,7 +131,6 @@ class Page:
     # The verdicts
 
     def verdict(self):
-        """What `admit` says, in a sentence."""
         answer = self.asked.admit
         if answer.is_yes:
             unknown = f" What runs in {names_of(self.asked.stand_ins)} is not known (stand-in)." if self.asked.stand_ins else ""
@@ -152,7 +146,6 @@ class Page:
         return banner("no", "No.", f"The {found[1]} {name_of(found[2])} is overfull: {where}.")
 
     def sleeping(self):
-        """What `isolate` says, in a sentence."""
         asked = self.asked
         if not asked.admit.is_yes or not asked.vcpus:
             return ""
@@ -202,7 +195,6 @@ class Page:
     # The guests
 
     def guests(self):
-        """A row for each part."""
         asked = self.asked
         columns = {
             "guest": self.guest, "on": lambda part: Cell(name_of(part.parent), "where"), "period": lambda part: str(part.period),
@@ -232,7 +224,6 @@ class Page:
 
     @staticmethod
     def closest(lines, part, key, limit, sign):
-        """Of the tasks of a part the one that has the least room up to its limit."""
         found = max((line for line in lines if line["name"] == part.name), key=lambda line: Fraction(line[key], line[limit]), default=None)
         return name_of(found["task"]) + " " + number(f"{found[key]} {sign} {found[limit]}") if found else "–"
 

@@ -3,19 +3,18 @@
 TRACE is a trace of any length (docs/use/formats.md): its moments may pass 1,000 seconds, up to 1,000,000,000,000,000,000 ns, and it may
 have more than 64 MiB. `-` is standard input. Memory does not grow with it. Several traces may stand one behind another, as
 tools/host from-ftrace writes them where events are missing, with moments that go on: no piece goes over from one to the next, and of a
-trace without an end the pieces are kept that are whole. The system file has the periods of the VCPUs. OUT is a folder, which is made or is
-empty. It gets the pieces, `piece-000001.csv` and so on, and a table of them, `table.csv`.
+trace without an end the pieces are kept that are whole. OUT is a folder, which is made or is empty. It gets the pieces,
+`piece-000001.csv` and so on, and a table of them, `table.csv`.
 
 A stretch has N seconds, a decimal number. Where a piece has come to 32 MiB, its stretch ends there. A period belongs to the stretch in
-which it begins, and lies whole in the piece of that stretch, unless the end of the recording cuts it. docs/use/audit.md says what is in
-which piece, and what the table has. A piece's name is written to standard output once the piece is whole and in the table:
+which it begins, and lies whole in the piece of that stretch, unless the end of the recording cuts it (docs/use/audit.md). A piece's name
+is written to standard output once the piece is whole and in the table:
 
     tools/host split recording.csv --system system.toml --seconds 600 out | tools/host audit-all system.toml -
 
 Refused, with the line: rows that break the rules of a trace, by the words of docs/use/formats.md; a period with more rows than a piece
 holds; more than 999,999 pieces. What was whole before stands and is in the table, and what was not is removed. Refused at once: N and the
-longest period together are more than 1,000 seconds; N that is no whole number of the trace's unit. The status is 1 then, and 2 where
-the words are wrong."""
+longest period together are more than 1,000 seconds; N that is no whole number of the trace's unit."""
 import argparse
 import heapq
 import os
@@ -163,7 +162,6 @@ class Cutter:
             piece.close(at)
 
     def begin(self, at):
-        """The next stretch begins."""
         self.newest = Piece(at, self.folder, self.room)
         self.open.append(self.newest)
         self.due = at + self.length
@@ -210,7 +208,6 @@ class Cutter:
             piece.close(at)
 
     def drop(self):
-        """Removes what is not whole."""
         for piece in self.open:
             piece.drop()
 

@@ -6,21 +6,21 @@ answer of `audit`, `over NAME from_ns=FROM_NS ..`. Without OUT the picture goes 
 
 With the system file, whose periods and budgets count microseconds, each period of a VCPU is a box that tells the time that it got and
 its budget. A period is short where it is over before the end, the VCPU is blocked nowhere in it, and it got less than its
-budget; and over where the VCPU has no extra time and got more. Both have a colour and a hatching of their own. A budget that the
-system file leaves out is given by --budget, or else is asked of the program, if there is one.
+budget; and over where the VCPU has no extra time and got more. A budget that the system file leaves out is given by --budget, or else is
+asked of the program, if there is one.
 
 Where the periods of a VCPU are less than 3 pixels wide, they are a band in place of boxes: for each column of 2 pixels the least
 and the most that a period of it got, with a line at the middle one (the median), a dashed line at the budget, and below it a mark
 where one is short or over. Where a row has more spans than columns, each column is filled by the share of time: a core by which
 VCPU had it, a VCPU by the time that it ran, from below, and was blocked, from above.
 
-A trace that breaks the rules of docs/use/formats.md is refused with its line, as far as it is read. The status is 1 then, and 2 where
-the words are wrong."""
+A trace that breaks the rules of docs/use/formats.md is refused with its line, as far as it is read."""
 import argparse
-import collections
 import io
+import pathlib
 import statistics
 import sys
+from collections import defaultdict, namedtuple
 from dataclasses import dataclass, field
 
 from ..command_line import Refused
@@ -45,13 +45,7 @@ HATCHES = "\n".join(["<defs>", *(
 WORDS = {1000: "µs", 1: "ns"}
 
 
-@dataclass
-class View:
-    """The moments that are drawn."""
-
-    begin: int
-    end: int
-
+class View(namedtuple("View", "begin end")):
     def x(self, at):
         """The distance of a moment from the left side of the plot."""
         return PLOT * (at - self.begin) / max(self.end - self.begin, 1)
@@ -72,16 +66,11 @@ class Spans:
 
     def add(self, start, stop, key):
         start, stop = max(start, self.view.begin), min(stop, self.view.end)
-        if start >= stop:
-            return
-        if self.shares is None:
-            self.spans.append((start, stop, key))
-            if len(self.spans) > COLUMNS:
-                spans, self.spans, self.shares = self.spans, [], {}
-                for span in spans:
-                    self.share(*span)
-        else:
-            self.share(start, stop, key)
+        self.spans += [(start, stop, key)] * (start < stop)
+        if len(self.spans) > COLUMNS and self.shares is None:
+            self.shares = {}
+        while self.spans and self.shares is not None:
+            self.share(*self.spans.pop())
 
     def share(self, start, stop, key):
         columns = self.shares.setdefault(key, [0] * COLUMNS)
@@ -125,7 +114,7 @@ class Drawn:
         told = [f"{'?' if server.budget is None else server.budget} of {server.period}{' +' if server.extra else ''}"]
         if self.is_band:
             told.append(f"got {min(self.amounts)} to {max(self.amounts)}" if self.amounts else "no whole period")
-            told.append(f"{self.counts['short']} short, {self.counts['over']} over")
+            told.append("{short} short, {over} over".format(**self.counts))
         return told
 
     def levels(self):
@@ -138,28 +127,23 @@ class Drawn:
 
 def servers_of(path, given, program, scale):
     """The servers of a system file, by name, in units of which so many are a microsecond."""
-    system = read_system(path)
-    parts = {part.name: part for part in system.parts()}
-    for name in given:
-        if name not in parts:
-            raise Refused(path, None, f"it has no part {name}")
-    missing = [name for name, part in parts.items() if part.budget is None and name not in given]
-    asked = {}
-    if missing:
-        try:
-            answer = program_of(program).ask("admit", path)
-            asked = {name: budget for name, (budget, _) in answer.budgets().items()} if answer.status == 0 else {}
-            if answer.status != 0:
-                print(f"{path}: admit gives no budgets: {answer.shown} (status {answer.status})", file=sys.stderr)
-        except Refused as refused:
-            print(f"{path}: the budget of {missing[0]} is left out, and --budget does not give it: {refused}", file=sys.stderr)
+    parts = {part.name: part for part in read_system(path).parts()}
+    if unknown := [name for name in given if name not in parts]:
+        raise Refused(path, None, f"it has no part {unknown[0]}")
+    missing, asked = [name for name, part in parts.items() if part.budget is None and name not in given], {}
+    try:
+        answer = missing and program_of(program).ask("admit", path)
+        if answer and answer.status == 0:
+            asked = {name: budget for name, (budget, _) in answer.budgets().items()}
+        elif answer:
+            print(f"{path}: admit gives no budgets: {answer.shown} (status {answer.status})", file=sys.stderr)
+    except Refused as refused:
+        print(f"{path}: the budget of {missing[0]} is left out, and --budget does not give it: {refused}", file=sys.stderr)
     budgets = {name: given.get(name, part.budget or asked.get(name)) for name, part in parts.items()}
     return {name: Server(part.period * scale, budgets[name] and budgets[name] * scale, part.extra) for name, part in parts.items()}
 
 
 class Picture(Canvas):
-    """VCPUs of a trace, the spans of each and of its core by their names, and what is drawn of the periods of those that are servers."""
-
     def __init__(self, view, unit, framed, vcpus, spans, drawn):
         super().__init__()
         self.view, self.unit, self.framed, self.vcpus, self.spans, self.drawn = view, unit, framed, vcpus, spans, drawn
@@ -297,7 +281,6 @@ class Picture(Canvas):
         self.text(x, y + 10, f"{told if bands else 'below each period: time got / budget'}; + has extra time", size=11, fill=GREY)
 
     def all(self):
-        """The text of the picture."""
         bands = {name for name, drawn in self.drawn.items() if drawn.is_band}
         rows = [(self.core, name, CORE_ROW + GAP) for name in self.cores]
         rows += [(self.vcpu, vcpu, VCPU_ROW + GAP + (BAND - 18 if vcpu.name in bands else 0)) for vcpu in self.vcpus]
@@ -321,9 +304,8 @@ def at_sign(text, sign="@", what="NAME@FROM_NS"):
 
 def view_of(given, servers, end, scale):
     """What is drawn, and the framed period as its VCPU and its start where one is asked for."""
-    if given.around is None:
-        view, framed = View(given.since or 0, end if given.until is None else min(end, given.until)), None
-    else:
+    view, framed = View(given.since or 0, end if given.until is None else min(end, given.until)), None
+    if given.around:
         name, at = given.around
         if name not in servers:
             cause = f"it has no part {name}, whose period is drawn: --around needs the system file"
@@ -351,7 +333,6 @@ def end_of(path, file):
 
 
 def picture_of(given):
-    """The text of the picture that the words ask for."""
     with opened(given.trace) as file:
         file = file if file.seekable() else io.StringIO(file.read())
         end = end_of(given.trace, file)
@@ -359,7 +340,7 @@ def picture_of(given):
         scale = 1000 // reader.unit
         servers = servers_of(given.system, dict(given.budget), given.program, scale) if given.system else {}
         view, framed = view_of(given, servers, end, scale)
-        spans, drawn = collections.defaultdict(lambda: Spans(view)), {name: Drawn(view, server) for name, server in servers.items()}
+        spans, drawn = defaultdict(lambda: Spans(view)), {name: Drawn(view, server) for name, server in servers.items()}
         tell = lambda name, *period: drawn[name].tell(*period)
         for vcpu, runs, since, until in judged(reader, host, servers, tell, view.begin, view.end):
             spans["vcpu", vcpu.name].add(since, until, "run" if runs else "blocked")
@@ -382,7 +363,6 @@ def add_words(parser):
     parser.add_argument("--until", type=int, metavar="AT", help="draws up to this moment of the trace")
     parser.add_argument("--around", type=at_sign, metavar="NAME@FROM_NS", help="draws the period of NAME that `audit` tells so")
     add_program(parser)
-    parser.set_defaults(refuse=parser.error)
 
 
 def run(given):
@@ -393,6 +373,4 @@ def run(given):
     picture = picture_of(given)
     if given.out is None:
         return picture
-    with open(given.out, "w") as file:
-        file.write(picture)
-    return 0
+    pathlib.Path(given.out).write_text(picture)

@@ -3,21 +3,18 @@
 It asks the program and prints for each core its share, beside the kernel's limit, and a call for each part on it: thread TID gets the
 budget as its runtime, and the period as its period and its deadline, in nanoseconds. -R lets the thread make others, which get no
 reservation; without it the kernel refuses that. A part that stands on a part is a reservation inside its guest, and has no call. `extra`
-says nothing here: no such thread gets more than it reserves but by what the kernel is late. --without names a part that is no thread, as
-one that stands for what the kernel keeps for others: it has no call, and does not count as reserved.
+says nothing here. --without names a part that is no thread, as one that stands for what the kernel keeps for others: it has no call, and
+does not count as reserved.
 
 --tick adds to each runtime what a kernel without HRTICK can be late in stopping a thread: one tick, as 4000 with 250 ticks a second. The
 kernel takes back in later periods what a thread ran too long, so without it a thread may lack up to a tick in a period. A thread
 may use its tick, so an audit with FILE calls it `over` where its part has no `extra`; --audit writes the file to audit such a host with,
-which is FILE with `extra = true` for each thread: its budgets are what each period is sure of, and more is let pass.
-
---limit is what the kernel lets all threads of a core reserve: kernel.sched_rt_runtime_us of every kernel.sched_rt_period_us, less the 5%
-that a newer kernel keeps for ordinary threads. Without it that is 900000/1000000.
+which is FILE with `extra = true` for each thread. --limit is what the kernel lets all threads of a core reserve: kernel.sched_rt_runtime_us
+of every kernel.sched_rt_period_us, less the 5% that a newer kernel keeps for ordinary threads; else it is 900000/1000000.
 
 Refused, with the file and the line, and nothing printed: a file that is not admitted; a part on a core that has no thread in the map, and
 a name in the words that is no such part; a runtime below 1024 ns or, with the tick, above the period; a period that is not 100 to 4194304
-microseconds; a core whose parts reserve more than the limit; a core that is not a whole processor under edf, as Linux has it.
-The status is 1 then, and 2 where the words are wrong."""
+microseconds; a core whose parts reserve more than the limit; a core that is not a whole processor under edf, as Linux has it."""
 import copy
 import pathlib
 import re
@@ -26,7 +23,7 @@ from fractions import Fraction
 from ..command_line import Refused, WrongWords, pairs, several
 from ..places import rewritten
 from ..program import add_program, program_of
-from ..system_file import System, admitted, need_full, read_system
+from ..system_file import System, admitted, read_system
 
 LEAST_NS = 1024
 PERIODS = (100, 4_194_304)
@@ -34,7 +31,6 @@ TID = re.compile("[1-9][0-9]{0,8}")
 
 
 def runtime_of(path, server, tick):
-    """What a part reserves in each period, in microseconds."""
     least, most = PERIODS
     if not least <= server.period <= most:
         raise Refused(path, server.line, f"{server.name} has a period of {server.period}, and the kernel takes {least} to {most}")
@@ -48,23 +44,18 @@ def runtime_of(path, server, tick):
 
 
 def percent(share):
-    """A share of a processor, rounded up to tenths of a percent."""
     tenths = -(-share * 1000 // 1)
     return f"{tenths // 10}.{tenths % 10}%"
 
 
 def calls(path, program, threads, without, tick, limit):
-    """The calls for all parts on the cores of an admitted file, core by core."""
-    file = admitted(path, program)
-    need_full(path, file.cores, "Linux")
-    names = [server.name for server in file.servers]
-    for option, told in (("--map", threads), ("--without", without)):
-        for name in told:
-            if name not in names:
-                raise Refused(path, None, f"no part on a core is {name}, which {option} tells")
+    cores, every, _ = admitted(path, program, "Linux")
+    for option, names in (("--map", threads), ("--without", without)):
+        if unknown := [name for name in names if name not in [server.name for server in every]]:
+            raise Refused(path, None, f"no part on a core is {unknown[0]}, which {option} tells")
     told = []
-    for core in file.cores:
-        servers = [server for server in file.servers if server.core == core["name"] and server.name not in without]
+    for core in cores:
+        servers = [server for server in every if server.core == core and server.name not in without]
         share, lines = Fraction(0), []
         for server in servers:
             if server.name not in threads:
@@ -74,10 +65,10 @@ def calls(path, program, threads, without, tick, limit):
             period = server.period * 1000
             lines.append(f"chrt -R -d -T {runtime * 1000} -D {period} -P {period} -p 0 {threads[server.name]}\n")
         if share > limit:
-            cause = f"{core['name']}: its parts reserve {percent(share)}, and the kernel grants {percent(limit)} (--limit)"
+            cause = f"{core}: its parts reserve {percent(share)}, and the kernel grants {percent(limit)} (--limit)"
             raise Refused(path, servers[0].line, cause)
-        told += [f"# {core['name']}: {percent(share)} of at most {percent(limit)}\n", *lines] if servers else []
-    if tick and any(not server.extra for server in file.servers if server.name in threads):
+        told += [f"# {core}: {percent(share)} of at most {percent(limit)}\n", *lines] if servers else []
+    if tick and any(not server.extra for server in every if server.name in threads):
         told.append("# an audit lets the tick pass where a part has extra = true (--audit)\n")
     return "".join(told)
 

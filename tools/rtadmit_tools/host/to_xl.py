@@ -3,15 +3,15 @@
 It asks the program and prints a call of `xl sched-rtds` for each part that stands on a core, in the order of the file: the part `audio-0`
 is VCPU 0 of the domain `audio`, and -e says whether it has extra time. It is another domain where a comment of the file says so, by a line
 `# --name DOMAIN=NAME` as from-xl writes it, or by --name, which goes before the file. A file that the program writes (`place`) has no
-comments: --names OTHER reads them in the file that it was made of. --name may be given several times; quote a word with a blank:
---name 'vm 3=vm3'. A part that stands on a part is a reservation inside its guest, and has no call.
+comments: --names OTHER reads them in the file that it was made of. Quote a word with a blank: --name 'vm 3=vm3'. A part that stands on a
+part is a reservation inside its guest, and has no call.
 
 Where the program knows `isolate`, standard error has a line for each VCPU that it calls exposed: one whose budget is not proved safe
 when others of its core sleep (docs/use/no.md). The calls are printed all the same.
 
 Refused, with the file and the line, and nothing printed: a file that is not admitted; a part that is not named for a domain and a VCPU's
 number; a comment `# --name` that tells no domain and name, or one of them twice; a period or a budget below the 10 microseconds that
-Xen asks for; a core that is not a whole processor under edf, as RTDS has it. The status is 1 then, and 2 where the words are wrong."""
+Xen asks for; a core that is not a whole processor under edf, as RTDS has it."""
 import pathlib
 import re
 import shlex
@@ -19,7 +19,7 @@ import sys
 
 from ..command_line import Refused, pairs, several
 from ..program import add_program, program_of
-from ..system_file import admitted, need_full
+from ..system_file import admitted
 
 LEAST = 10
 VCPU = re.compile(r"(.+)-(0|[1-9][0-9]*)")
@@ -29,8 +29,7 @@ NAMED = re.compile(r"# --name (.*)")
 def named_in(path, file):
     """The domain that each name stands for, as the comments of tools/host from-xl tell it."""
     domains = {}
-    for line, text in enumerate(file.split("\n"), 1):
-        found = NAMED.fullmatch(text)
+    for line, found in enumerate(map(NAMED.fullmatch, file.split("\n")), 1):
         if not found:
             continue
         try:
@@ -47,7 +46,6 @@ def named_in(path, file):
 
 
 def call(path, server, domains):
-    """The call for one VCPU."""
     found = VCPU.fullmatch(server.name)
     if not found:
         raise Refused(path, server.line, f"{server.name} is not named DOMAIN-NUMBER, for a VCPU")
@@ -62,26 +60,21 @@ def call(path, server, domains):
 
 def tell_exposed(path, program):
     """Says on standard error which VCPUs are exposed, where the program answers that."""
-    for line in program.ask("isolate", path).lines:
-        if line.startswith("exposed "):
-            _, name, by, *_ = line.split()
-            told = f"{name} is exposed ({by}): its budget is not proved safe when others of its core sleep (docs/use/no.md)"
-            print(f"{path}: {told}", file=sys.stderr)
+    for line in program.ask("isolate", path).told("exposed"):
+        told = f"{line['name']} is exposed (by={line['by']}): its budget is not proved safe when others of its core sleep (docs/use/no.md)"
+        print(f"{path}: {told}", file=sys.stderr)
 
 
 def calls(path, program, domains, names):
     """The calls for all VCPUs of an admitted file, with the names of domains that are given and those of the comments of a file."""
-    file = admitted(path, program)
-    need_full(path, file.cores, "Xen's RTDS")
-    if not file.servers:
+    _, servers, text = admitted(path, program, "Xen's RTDS")
+    if not servers:
         raise Refused(path, None, "no VCPU")
-    comments = named_in(names or path, pathlib.Path(names).read_text(errors="surrogateescape") if names else file.text)
-    named = {**comments, **domains}
-    told = [call(path, server, named) for server in file.servers]
-    known = {VCPU.fullmatch(server.name)[1] for server in file.servers}
-    for name in domains:
-        if name not in known:
-            raise Refused(path, None, f"no part is named for a domain {name}, which --name tells")
+    named = named_in(names or path, pathlib.Path(names).read_text(errors="surrogateescape") if names else text) | domains
+    told = [call(path, server, named) for server in servers]
+    known = {VCPU.fullmatch(server.name)[1] for server in servers}
+    if unknown := [name for name in domains if name not in known]:
+        raise Refused(path, None, f"no part is named for a domain {unknown[0]}, which --name tells")
     tell_exposed(path, program)
     return "".join(told)
 

@@ -12,25 +12,23 @@ Then it looks for changes that make the answer a yes, each by itself, by asking 
     PART.period=N         a shorter period of one part; of the periods that were tried the longest that helps
     PART.parent=CORE      a part that stands on a core is moved to another core: of those that help, that with the least load
 
-They are looked for on the core in question alone, and each is asked about in the whole file before it is told. `--copy CHANGE` writes that
-file, with its comments, so that anyone can ask again; the words that are printed for it have the program that --program names. Of a
-stand-in, whose one task is that of from-xl and from-linux, the budget and the period stay as they are, since nothing is known of its real
-tasks. Where no change helps by itself, those are told with which the program goes on to a node behind the one that is told. Of each kind
-the smallest five are told, and with --all all. Of more than 24 tasks, or parts, those with the greatest shares are tried.
+`--copy CHANGE` writes the file with a change, with its comments, so that anyone can ask again. Of a stand-in, whose one task is that of
+from-xl and from-linux, the budget and the period stay as they are. Where no change helps by itself, those are told with which the program
+goes on to a node behind the one that is told. Of each kind the smallest five are told, and with --all all. Of more than 24 tasks, or
+parts, those with the greatest shares are tried.
 
 Where the program refuses FILE, or SECOND behind it, it tells the line, the table and the key, or the field of the row, what is wrong there
 and the rule of docs/use/formats.md. SECOND is a trace, a workload, a release file, a script, guests for `place` or a certificate, as its
 first line says, or --as. The program names the fault, and the place is found by reading the file here once more; where that reading finds
 no such fault there, or does not take the file (Python's reader of TOML is one of TOML 1.0), it says so.
 
-The status is that of the program's answer: 0 on yes, 1 on no, 4 on wide, 3 where a file is refused; 2 where the words are wrong; and 3,
-with the cause on standard error, where there is no answer."""
+The status is that of the program's answer: 0 on yes, 1 on no, 4 on wide, 3 where a file is refused; and 3 where there is no answer."""
 import fractions
 import math
 import pathlib
 import shlex
 import tomllib
-from dataclasses import dataclass
+from collections import namedtuple
 
 from .. import faults
 from ..command_line import TOP, Refused, counted
@@ -39,6 +37,8 @@ from ..places import rewritten
 from ..program import add_program, program_of
 from ..system_file import STAND_IN, budget_of, read_admitted, read_system
 
+# a change that helps: of which kind, how large it is beside others of that kind, and what it is
+Offer = namedtuple("Offer", "kind size change text")
 REFUSED = 3
 MOST_TRIED, MOST_TOLD = 24, 5
 INVENTED = [task_of(table) for table in tomllib.loads("[[part]]\n" + STAND_IN)["part"][0]["task"]]
@@ -52,14 +52,12 @@ KINDS = {
 
 
 # Why: what the node that is told serves, and what it gets
-
-
 def slots(count):
-    return f"{count} slot" if count == 1 else f"{count} slots"
+    return f"{count} slot{'s' * (count != 1)}"
 
 
 def missing(count):
-    return f"{count} is missing" if count == 1 else f"{count} are missing"
+    return f"{count} {'is' if count == 1 else 'are'} missing"
 
 
 def percent(share):
@@ -85,7 +83,6 @@ class Told:
         self.tasks = self.node.tasks or [self.child(name, program) for name in self.node.children]
 
     def child(self, name, program):
-        """A part that the node serves, as a task of its budget."""
         period = self.system.nodes[name].period
         return Task(name, period, period, budget_of(self.system, name, program), 0)
 
@@ -154,18 +151,6 @@ def is_stand_in(part):
 
 
 # What helps
-
-
-@dataclass
-class Offer:
-    """A change that helps: of which kind, how large it is beside others of that kind, and what it is."""
-
-    kind: str
-    size: fractions.Fraction
-    change: str
-    text: str
-
-
 class Search:
     """Looks for changes of a system that help, by asking the program about changed copies. It asks about the core in question alone, and
     about the one to which a part is moved, since what stands on other cores has no part in it."""
@@ -211,7 +196,6 @@ class Search:
         return [part for part in self.parts() if not is_stand_in(part)]
 
     def budgets(self):
-        """The budgets that are given, left out."""
         for part in self.known():
             change = f"{part.name}.budget=open"
             if part.budget is None or not self.helps(change):
@@ -225,18 +209,13 @@ class Search:
         """For each node that goes by a fixed priority the first other one that helps, and earliest deadline first where that does. What
         goes by earliest deadline first passes with no other where it does not pass."""
         cores = [self.told.node] if self.told.node.kind == "core" else []
-        for node in self.largest([node for node in cores + self.known() if node.sched != "edf"], self.load_of):
+        for node in self.largest([node for node in cores + self.known() if node.sched != "edf"], self.load):
             helping = [sched for sched in ("dm", "rm", "edf") if sched != node.sched and self.helps(f"{node.name}.sched={sched}")]
             for place, sched in enumerate(dict.fromkeys([*helping[:1], *helping[-1:]])):
                 text = f"{node.name}: {SCHEDS[sched]}, where it was {SCHEDS[node.sched]}"
                 yield Offer("sched", fractions.Fraction(place), f"{node.name}.sched={sched}", text)
 
-    def load_of(self, node):
-        """The share of a node, as far as the file tells it."""
-        return self.load(node) if node.kind == "core" else self.weight(node)
-
     def works(self):
-        """For each task the greatest lower work that helps."""
         tasks = [(part, task) for part in self.parts() for task in part.tasks if task.work > 1]
         for part, task in self.largest(tasks, lambda pair: share_of(pair[1])):
             change = f"{part.name}.{task.name}.work="
@@ -247,7 +226,7 @@ class Search:
 
     def periods(self):
         """For each part a shorter period that helps: the first of some, each shorter than the one before, and from there on by halving."""
-        for part in self.largest(self.known(), self.weight):
+        for part in self.largest(self.known(), self.load):
             change, longer = f"{part.name}.period=", part.period
             for shorter in shorter_periods(part.period):
                 if self.helps(change + str(shorter)):
@@ -257,9 +236,11 @@ class Search:
                     break
                 longer = shorter
 
-    def weight(self, part):
-        """The share of a part, as far as the file tells it."""
-        return fractions.Fraction(part.budget, part.period) if part.budget else sum(map(share_of, part.tasks))
+    def load(self, node):
+        """The share that a part has, or of a core what its parts have, as far as the file tells it."""
+        if node.kind == "core":
+            return sum(self.load(self.system.nodes[name]) for name in node.children) / fractions.Fraction(node.budget, node.period)
+        return fractions.Fraction(node.budget, node.period) if node.budget else sum(map(share_of, node.tasks))
 
     def moves(self):
         """For each part on a core that is told the least loaded other core that takes it."""
@@ -272,11 +253,6 @@ class Search:
                 if self.helps_in(self.program.admit(self.system.only([self.core, core]).changed(change))):
                     yield Offer("parent", share_of(child), change, f"{child.name}, {percent(share_of(child))} of a core, to {core}")
                     break
-
-    def load(self, core):
-        """The share of a core that its parts have, as far as the file tells it."""
-        given = fractions.Fraction(core.budget, core.period)
-        return sum(self.weight(self.system.nodes[name]) for name in core.children) / given
 
 
 def shorter_periods(period):
@@ -306,16 +282,15 @@ def helping(system, told, program):
         if offers:
             break
     yes = [(offer, answer) for offer, answer in offers if answer.is_yes]
+    head = "No change that was tried helps by itself."
+    if offers:
+        head = "No change that was tried makes it a yes by itself. With any one of these the program comes to another node:"
     if yes:
         head = "With any one of these changes the program answers yes:"
-    elif offers:
-        head = "No change that was tried makes it a yes by itself. With any one of these the program comes to another node:"
-    else:
-        head = "No change that was tried helps by itself."
     kept = ", ".join(part.name for part in search.parts() if is_stand_in(part))
-    kept = [f"({kept}: the task is invented, so budget and period stay as they are.)"] if kept else []
-    kept += [f"(Of the tasks and parts the {MOST_TRIED} with the greatest shares were tried.)"] if search.cut else []
-    return [head, *kept], yes or offers
+    notes = [f"({kept}: the task is invented, so budget and period stay as they are.)"] * bool(kept)
+    notes += [f"(Of the tasks and parts the {MOST_TRIED} with the greatest shares were tried.)"] * search.cut
+    return [head, *notes], yes or offers
 
 
 def by_kind(offers):
@@ -345,8 +320,6 @@ def offer_lines(path, offers, most, asked):
 
 
 # The words
-
-
 def called(name):
     """The words by which a file of this checkout is called from where one stands."""
     return shlex.quote(str(TOP / name)) if pathlib.Path.cwd() != TOP else name if "/" in name else f"./{name}"
@@ -369,7 +342,6 @@ def judged(path, program, most, asked=None):
 
 
 def refused(path, second, kind, answer):
-    """The status, and what is told of a file that is refused."""
     told = faults.lines_of(path, second, kind, answer)
     return 3, [f"{second or path}{f', read as {kind}' if kind else ''}: {answer.shown}", "", *told]
 
@@ -387,7 +359,6 @@ def judged_second(path, second, kind, program):
 
 
 def wide_lines(system, answer):
-    """What is to be said of a node whose periods share too few factors."""
     node = system.nodes.get(answer.lines[1].split()[-1]) if len(answer.lines) > 1 else None
     if node is None:
         raise Refused(system.path, None, f"the program's answer tells no node of the file: {answer.shown}")
