@@ -1,10 +1,13 @@
-"""What the tests of the tools share: a verb run as on the command line, a folder for files, and programs to ask."""
+"""What the tests of the tools share: a verb run as on the command line, a folder for files, system files and traces of a few words, and
+programs to ask."""
 import contextlib
 import importlib
 import io
 import os
 import pathlib
+import re
 import shlex
+import subprocess
 import sys
 import tempfile
 import unittest
@@ -42,6 +45,45 @@ def program():
     return None
 
 
+needs_program = unittest.skipUnless(program(), "no program is named (RTADMIT) or built")
+
+
+def system(*lines, format=1):
+    """The text of a system file. A core is `NAME SCHED`; a part is `NAME PARENT SCHED PERIOD[/BUDGET] [extra]` with its tasks behind it, each
+    `NAME:PERIOD:WORK`, where it has them with `:DEADLINE` and `:JITTER`."""
+    told = [f"format = {format}"]
+    for name, first, *more in map(str.split, lines):
+        told += [f'[[{"part" if more else "core"}]]', f'name = "{name}"', f'{"parent" if more else "sched"} = "{first}"']
+        if more:
+            period, _, budget = more[1].partition("/")
+            told += [f'sched = "{more[0]}"', f"period = {period}", *[f"budget = {budget}"] * bool(budget), *["extra = true"] * ("extra" in more)]
+        for task in (word.split(":") for word in more if ":" in word):
+            keys = ("period", "work", "deadline", "jitter")
+            told += ["[[part.task]]", f'name = "{task[0]}"', *(f"{key} = {value}" for key, value in zip(keys, task[1:]) if value)]
+    return "\n".join(told) + "\n"
+
+
+def trace(rows, unit="at"):
+    """The text of a trace, of rows with blanks between them."""
+    return "\n".join([f"{unit},core,what,vcpu", *rows.split()]) + "\n"
+
+
+def texts(picture):
+    return re.findall(r"<text [^>]*>([^<]*)</text>", picture)
+
+
+def peak(lines, *words):
+    """The most memory, in KiB, of a run of a verb of tools/host over lines that come through a pipe."""
+    code = (
+        "import sys; sys.path.insert(0, sys.argv[1]); import support; status = support.command_line.main('host', sys.argv[2:]); "
+        "print(status, next(line.split()[1] for line in open('/proc/self/status') if line.startswith('VmHWM')), file=sys.stderr)")
+    words = [sys.executable, "-B", "-c", code, pathlib.Path(__file__).parent, *words]
+    ran = subprocess.run(words, input="".join(lines), stdout=subprocess.DEVNULL, stderr=subprocess.PIPE, text=True)
+    status, most = ran.stderr.split("\n")[-2].split()
+    assert status == "0", ran.stderr
+    return int(most)
+
+
 class Room:
     """A folder for the files of a test, which goes away with it."""
 
@@ -52,33 +94,57 @@ class Room:
 
     def file(self, name, text):
         path = self.folder / name
+        path.parent.mkdir(parents=True, exist_ok=True)
         path.write_text(text)
         return path
 
-    def script(self, text):
-        """The words of a program that is a few lines of shell."""
-        path = self.file("program", f"#!/bin/sh\n{text}\n")
+    def script(self, text, name="program"):
+        """The path of a program that is a few lines of shell."""
+        path = self.file(name, f"#!/bin/sh\n{text}\n")
         path.chmod(0o755)
         return str(path)
 
     def answering(self, text, status=0):
-        """The words of a program that reads its file and answers this, whatever it is asked."""
+        """The path of a program that reads its file and answers this, whatever it is asked."""
         return self.script(f"cat \"$2\" >/dev/null\nprintf %s {shlex.quote(text)}\nexit {status}")
 
 
-class Checkout(unittest.TestCase):
+class Case(unittest.TestCase):
+    """Tests with a folder of their own, which is left out of what a verb says."""
+
+    def setUp(self):
+        self.room = Room(self)
+        self.folder, self.file = self.room.folder, self.room.file
+
+    def ran(self, kind, *words):
+        return tuple(told if isinstance(told, int) else told.replace(f"{self.folder}/", "") for told in run(kind, *words))
+
+    def refused(self, cause, kind, *words, status=1):
+        """Refused for a cause, and nothing is printed."""
+        ended, out, err = self.ran(kind, *words)
+        self.assertEqual((ended, out), (status, ""), err)
+        self.assertIn(cause, err)
+
+    def stand_in(self, *patches, **names):
+        """Puts something in place of names of a module, up to the end of the test."""
+        for module in patches:
+            for name, value in names.items():
+                patch = mock.patch.object(module, name, value)
+                patch.start()
+                self.addCleanup(patch.stop)
+
+
+class Checkout(Case):
     """Checks of sources over a repository of a few files in place of this one."""
 
     def setUp(self):
-        self.top = Room(self).folder / "top"
-        in_place = mock.patch.object(sources, "TOP", self.top)
-        in_place.start()
-        self.addCleanup(in_place.stop)
+        super().setUp()
+        self.top = self.folder / "top"
+        self.stand_in(sources, TOP=self.top)
 
     def write(self, files):
         for name, text in files.items():
-            (self.top / name).parent.mkdir(parents=True, exist_ok=True)
-            (self.top / name).write_text(text)
+            self.file(f"top/{name}", text)
 
     def told(self, *words):
         """The status of a verb of tools/gate, and the lines that it prints."""
