@@ -267,7 +267,7 @@ class Tries(Crates):
         for crate in ("high", "low"):
             self.write({f"crates/{crate}/src/lib.rt": "let a = 1;\n"})
             self.tried()
-        self.edits(**{f"low__e{number:02}": (EDIT, REFUSED) for number in range(13)})
+        self.edits(**{f"low__e{number:02}": (f"{EDIT}number: {number}\n", REFUSED) for number in range(13)})
         self.tried("low")
         rows, both = self.noted(), "low one.edit two.edit "
         self.assertEqual(rows[:5], [both, "low two.edit ", "high two.edit ", "high two.edit ", both])
