@@ -108,6 +108,14 @@ class Room:
         """The path of a program that reads its file and answers this, whatever it is asked."""
         return self.script(f"cat \"$2\" >/dev/null\nprintf %s {shlex.quote(text)}\nexit {status}")
 
+    def asked(self, answers, other=2):
+        """The path of a program that answers by its command, and where that is said by its second file or its part too: a text, or a
+        status and a text; to all else by a status alone."""
+        pairs = [(0, told) if isinstance(told, str) else told for told in answers.values()]
+        cases = "".join(f"'{key}'{'' if ' ' in key else '*'}) printf %s {shlex.quote(text)}; exit {status} ;;\n"
+                        for key, (status, text) in zip(answers, pairs))
+        return self.script(f'case "$1 $3" in\n{cases}*) exit {other} ;;\nesac')
+
 
 class Case(unittest.TestCase):
     """Tests with a folder of their own, which is left out of what a verb says."""
