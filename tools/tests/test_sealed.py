@@ -249,7 +249,7 @@ class Release(Case):
         self.gate.unlink()
         self.nothing("gate.txt: No such file")
         self.gate.write_text(line)
-        self.nothing("is not what the gate left", program=self.room.script("echo rtadmit 7.1", "other"))
+        self.nothing("is not what the gate left", program=self.room.script("echo rtadmit 7.1 # another", "other"))
         nowhere = self.folder / "nowhere"
         self.nothing("nowhere: No such file", program=nowhere)
         self.refused("nowhere: No such file", "gate", "program-sum", "--program", nowhere)
