@@ -150,7 +150,8 @@ CRATES = {
     "base": [block("pub fn twice(x: u64) -> u64", "2 * x"), block("pub fn settle(x: u64) -> u64")],
     "low": [
         "mod more;\npub use base::twice;\n\n/// Reached, by its import.",
-        "pub fn reached(x: u64) -> u64\n    requires small { unused_too x ≡ x }", "    ensures {\n        result ≡ record x {\n          y = unused x;\n        } }\n{\n    prove!(unused(x) == x);",
+        "pub fn reached(x: u64) -> u64\n    requires small { unused_too x ≡ x }",
+        "    ensures {\n        result ≡ record x {\n          y = unused x;\n        } }\n{\n    prove!(unused(x) == x);",
         "    invariant same {\n        unused(x) ≡ x\n    }\n    // unused(x)\n    settle(x)\n}",
         "/// Named in contracts, in comments and in proofs alone.", block("pub fn unused(x: u64) -> u64", "helper(x)"),
         block("fn helper(x: u64) -> u64"), block("fn settle(x: u64) -> u64"),
