@@ -10,6 +10,8 @@ budget and the third 50 more. FROM is a second at which a frame of every kind be
 there on, as a trace of its own. The last words print what `tools/host audit-all` is to say."""
 import sys
 
+import support
+
 FRAME, CORES, EVERY = 10_000, 4, 997
 # the period of each VCPU of a core, and what it gets in a frame
 VCPUS = ((10_000, 2000), (10_000, 1500), (10_000, 1000), (10_000, 500), (20_000, 750), (40_000, 500))
@@ -29,12 +31,9 @@ def is_broken(frame, core):
 
 
 def system():
-    told = ["format = 1", *(f'[[core]]\nname = "c{core}"\nsched = "edf"' for core in range(CORES))]
-    for core in range(CORES):
-        for place, (period, _) in enumerate(VCPUS):
-            told.append(f'[[part]]\nname = "{name(core, place)}"\nparent = "c{core}"\nsched = "edf"\nperiod = {period}\nbudget = {budget(place)}')
-            told.append('[[part.task]]\nname = "any"\nperiod = 1000000\nwork = 1')
-    return "\n".join(told) + "\n"
+    vcpus = [(core, place, period) for core in range(CORES) for place, (period, _) in enumerate(VCPUS)]
+    return support.system(*(f"c{core} edf" for core in range(CORES)), *(
+        f"{name(core, place)} c{core} edf {period}/{budget(place)} any:1000000:1" for core, place, period in vcpus))
 
 
 def frame_rows(frame, core, first):
@@ -78,7 +77,8 @@ def told(seconds):
             asleep = len(frames) // 3 if place == 3 else 0
             short, over = (len(broken[core]) if place == which else 0 for which in (1, 2))
             least, most = got - 100_000 * bool(short), got + 50_000 * bool(over)
-            yield f"vcpu {name(core, place)} begun={begun} judged={begun - asleep} short={short} over={over} least_ns={least} most_ns={most}"
+            judged = f"judged={begun - asleep} short={short} over={over} least_ns={least} most_ns={most}"
+            yield f"vcpu {name(core, place)} begun={begun} {judged}"
 
 
 if __name__ == "__main__":
