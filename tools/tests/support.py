@@ -49,14 +49,15 @@ needs_program = unittest.skipUnless(program(), "no program is named (RTADMIT) or
 
 
 def system(*lines, format=1):
-    """The text of a system file. A core is `NAME SCHED`; a part is `NAME PARENT SCHED PERIOD[/BUDGET] [extra]` with its tasks behind it, each
-    `NAME:PERIOD:WORK`, where it has them with `:DEADLINE` and `:JITTER`."""
+    """The text of a system file. A core is `NAME SCHED`; a part is `NAME PARENT SCHED PERIOD[/BUDGET] [extra]` with its tasks behind it,
+    each `NAME:PERIOD:WORK`, where it has them with `:DEADLINE` and `:JITTER`."""
     told = [f"format = {format}"]
     for name, first, *more in map(str.split, lines):
         told += [f'[[{"part" if more else "core"}]]', f'name = "{name}"', f'{"parent" if more else "sched"} = "{first}"']
         if more:
             period, _, budget = more[1].partition("/")
-            told += [f'sched = "{more[0]}"', f"period = {period}", *[f"budget = {budget}"] * bool(budget), *["extra = true"] * ("extra" in more)]
+            given = [f"budget = {budget}"] * bool(budget) + ["extra = true"] * ("extra" in more)
+            told += [f'sched = "{more[0]}"', f"period = {period}", *given]
         for task in (word.split(":") for word in more if ":" in word):
             keys = ("period", "work", "deadline", "jitter")
             told += ["[[part.task]]", f'name = "{task[0]}"', *(f"{key} = {value}" for key, value in zip(keys, task[1:]) if value)]

@@ -59,7 +59,9 @@ class Judge:
         if not os.path.isfile(trace):
             return Answer(3, "fault=BadHeader row=1 file=2\n") if trace == os.devnull else Answer(5, "absent file=2\n")
         self.asked.append(pathlib.Path(trace).name)
-        lines = list(lines_of(test_split.Judged(pathlib.Path(trace).read_text(), self.parts), self.parts))
+        text = pathlib.Path(trace).read_text()
+        text = text.replace("at_ns", "at").replace("000,", ",") if text.startswith("at_ns") else text
+        lines = list(lines_of(test_split.Judged(text, self.parts), self.parts))
         counts = [line for line in lines if line.startswith("vcpu")] if command == "tally" else []
         return Answer(int(lines[0] == "verdict=no"), self.change("\n".join([*lines[:2], *counts]) + "\n"))
 
@@ -106,7 +108,7 @@ class Pieces(Case):
         words = [self.file("trace.csv", trace(rows, "at_ns")), self.pieces, "--system", self.system, "--seconds=0.00002"]
         self.assertEqual(run("host", "split", *words)[0], 0)
         later = [line.replace("000 got", "005 got") for line in BROKEN]
-        self.assertEqual(self.answered(Nanoseconds(PARTS)), (1, [*later, *COUNTS], ""))
+        self.assertEqual(self.answered(Judge(PARTS)), (1, [*later, *COUNTS], ""))
 
     def test_random_recordings_are_answered_as_the_whole(self):
         """By the plain judge, and by the program where there is one."""
@@ -145,17 +147,6 @@ class Pieces(Case):
                 told_once = [*lines[:2], *(line for line in lines[2:] if line.startswith("vcpu"))]
                 self.assertEqual((status, told_once), (whole.status, whole.lines))
                 self.assertEqual(lines, told or lines)
-
-
-class Nanoseconds(Judge):
-    """The same for traces whose moments are whole microseconds behind their first."""
-
-    def ask(self, command, file, trace):
-        if os.path.isfile(trace):
-            text = pathlib.Path(trace).read_text().replace("at_ns", "at").replace("000,", ",")
-            trace = pathlib.Path(trace).with_suffix(".us")
-            trace.write_text(text)
-        return super().ask(command, file, trace)
 
 
 class Elsewhere(Case):

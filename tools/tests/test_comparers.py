@@ -152,10 +152,7 @@ class Made(unittest.TestCase):
             self.assertNotEqual(made(7)[0], made(7)[1])
 
     def test_what_is_generated(self):
-        """The first of a seed; each task has a job at each of two moments; one of two systems has a guest with extra time."""
-        system = four_guests[0]
-        self.assertEqual([table["sched"] for table in (*system["core"], *system["part"])], ["dm", "listed", "rm", "listed", "rm", "edf"])
-        self.assertEqual([table["parent"] for table in system["part"]], ["cpu0", "mid", "mid", "mid", "mid"])
+        """Each task has a job at each of two moments; one of two systems has a guest with extra time."""
         for system, releases in generated.made(11, 5):
             jobs = [row.split(",", 1) for row in releases.splitlines()[1:]]
             first, second = ([job for at, job in jobs if at == moment] for moment in ("0", "100"))

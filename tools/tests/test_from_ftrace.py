@@ -5,6 +5,7 @@ import itertools
 import random
 import subprocess
 import sys
+import types
 from unittest import mock
 
 import support
@@ -235,65 +236,61 @@ class Kernel:
 
     TICK = 400
 
-    def __init__(self, threads, chance):
-        self.chance, self.lines, self.begins = chance, [], {name: set() for name in threads}
+    def __init__(self, kinds, chance, steps):
+        self.chance, self.lines, self.begins, self.now, self.current = chance, [], {name: set() for name in kinds}, 0, None
+        begun = {"left": 0, "due": 0, "waits": False}
         self.threads = {
-            name: dict(name=name, pid=10 + place, runtime=0, deadline=0, throttled=False, wakes=chance.randint(0, period), q=q, p=period)
-            for place, (name, (q, period)) in enumerate(threads.items())}
-        self.now, self.current = 0, None
+            name: types.SimpleNamespace(name=name, pid=10 + place, q=q, p=p, wakes=chance.randint(0, p), **begun)
+            for place, (name, (q, p)) in enumerate(kinds.items())}
+        while self.now < steps:
+            self.step(self.threads.values())
+        self.lines.append(mark(self.at, "stopped"))
 
-    @staticmethod
-    def at(step):
-        return f"{1 + step // 100_000}.{step % 100_000 * 10:06}"
+    @property
+    def at(self):
+        return f"{1 + self.now // 100_000}.{self.now % 100_000 * 10:06}"
+
+    def some(self, most):
+        return self.chance.choice((1, 1, 5)) * self.chance.randint(1, most)
 
     def replenish(self, thread):
-        self.begins[thread["name"]].add(thread["deadline"])
-        while thread["runtime"] <= 0:
-            thread["runtime"], thread["deadline"] = thread["runtime"] + thread["q"], thread["deadline"] + thread["p"]
-        thread["throttled"] = False
+        self.begins[thread.name].add(thread.due)
+        while thread.left <= 0:
+            thread.left, thread.due = thread.left + thread.q, thread.due + thread.p
+        thread.waits = False
 
     def wake(self, thread):
-        self.lines.append(wakeup(self.at(self.now), f"{thread['name']} {thread['pid']}"))
-        thread["wakes"], thread["work"] = None, self.chance.choice((1, 1, 5)) * self.chance.randint(1, thread["q"])
-        left = thread["deadline"] - self.now
-        if not thread["throttled"] and (left <= 0 or thread["runtime"] * thread["p"] > left * thread["q"]):
-            thread["runtime"], thread["deadline"] = thread["q"], self.now + thread["p"]
-            self.begins[thread["name"]].add(self.now)
+        self.lines.append(wakeup(self.at, f"{thread.name} {thread.pid}"))
+        thread.wakes, thread.work, until = None, self.some(thread.q), thread.due - self.now
+        if not thread.waits and (until <= 0 or thread.left * thread.p > until * thread.q):
+            thread.left, thread.due = thread.q, self.now + thread.p
+            self.begins[thread.name].add(self.now)
 
     def to(self, thread):
         """Gives the processor to a thread, or to none."""
         before, self.current = self.current, thread
-        if before is not None and before["runtime"] <= 0:
-            before["throttled"] = True
-            self.lines.append(timer(self.at(self.now), 10**9 + before["deadline"] * 10_000, which=f"{before['pid']:016}"))
-        names = [f"{each['name']} {each['pid']}" if each else "sh 7" for each in (before, thread)]
-        state = "S" if before is not None and before["wakes"] is not None else "R"
-        self.lines.append(switch(self.at(self.now), f"{names[0]} {state}", names[1]))
+        if before and before.left <= 0:
+            before.waits = True
+            self.lines.append(timer(self.at, 10**9 + before.due * 10_000, which=f"{before.pid:016}"))
+        out, into = (f"{each.name} {each.pid}" if each else "sh 7" for each in (before, thread))
+        self.lines.append(switch(self.at, f"{out} {'S' if before and before.wakes is not None else 'R'}", into))
 
-    def step(self):
-        for thread in self.threads.values():
-            if thread["throttled"] and thread["deadline"] <= self.now:
-                self.replenish(thread)
-        for thread in self.threads.values():
-            if thread["wakes"] is not None and thread["wakes"] <= self.now:
-                self.wake(thread)
-        ready = [each for each in self.threads.values() if each["wakes"] is None and not each["throttled"]]
-        stopped = self.current is not None and self.now % self.TICK == 0 and self.current["runtime"] <= 0
-        best = min((each for each in ready if not (stopped and each is self.current)), key=lambda each: each["deadline"], default=None)
+    def step(self, threads):
+        for thread in (each for each in threads if each.waits and each.due <= self.now):
+            self.replenish(thread)
+        for thread in (each for each in threads if each.wakes is not None and each.wakes <= self.now):
+            self.wake(thread)
+        stopped = self.current if self.current and self.now % self.TICK == 0 and self.current.left <= 0 else None
+        ready = (each for each in threads if each.wakes is None and not each.waits and each is not stopped)
+        best = min(ready, key=lambda each: each.due, default=None)
         if best is not self.current:
             self.to(best)
         self.now += 1
-        if self.current is not None:
-            self.current["runtime"], self.current["work"] = self.current["runtime"] - 1, self.current["work"] - 1
-            if self.current["work"] <= 0:
-                self.current["wakes"] = self.now + self.chance.choice((1, 1, 5)) * self.chance.randint(1, self.current["p"])
+        if thread := self.current:
+            thread.left, thread.work = thread.left - 1, thread.work - 1
+            if thread.work <= 0:
+                thread.wakes = self.now + self.some(thread.p)
                 self.to(None)
-
-    def ran(self, steps):
-        while self.now < steps:
-            self.step()
-        self.lines.append(mark(self.at(self.now), "stopped"))
-        return self
 
 
 class Accounts(Case):
@@ -304,7 +301,7 @@ class Accounts(Case):
     def starts(self, kernel, lines, kinds):
         """The step of each start of these threads, by its VCPU, and the lines on standard error; or nothing where there is no trace."""
         served = {name: f"{period * 10}/{budget * 10}" for name, (budget, period) in kinds.items()}
-        named = ["--cpu=3=cpu3", *(f"--thread={kernel.threads[name]['pid']}={name}" for name in kinds)]
+        named = ["--cpu=3=cpu3", *(f"--thread={kernel.threads[name].pid}={name}" for name in kinds)]
         _, out, err = self.translated(lines, served=served, named=named)
         rows = [(int(at), what, name) for at, _, what, name in (row.split(",") for row in out.splitlines()) if at.isdigit()]
         self.assertEqual(rows, sorted(rows, key=lambda row: row[0]))
@@ -315,7 +312,7 @@ class Accounts(Case):
         counts = {True: 0, False: 0}
         for seed in range(6):
             kinds = self.KINDS[seed % 2]
-            kernel = Kernel(kinds, random.Random(seed)).ran(40_000)
+            kernel = Kernel(kinds, random.Random(seed), 40_000)
             for timers in (True, False):
                 lines = [line for line in kernel.lines if timers or "dl_task_timer" not in line]
                 for cut, of in itertools.product(range(0, len(lines), 17), "AB"):
@@ -328,19 +325,10 @@ class Accounts(Case):
         """4.1 ms in 20 ms: it works 7.9 ms up to its first sleep, between two ticks, and owes most of the period in which it wakes."""
         chance = mock.Mock(**{"choice.return_value": 1, "randint.side_effect": [0, 790, 2001, 10, 4000, 10, 4000]})
         kinds = {"A": (410, 2000)}
-        kernel = Kernel(kinds, chance).ran(8000)
+        kernel = Kernel(kinds, chance, 8000)
         self.assertEqual(kernel.begins["A"], {0, 2000, 6801})
         for lines in (kernel.lines, [line for line in kernel.lines if "dl_task_timer" not in line]):
             self.assertEqual(self.starts(kernel, lines[1:], kinds), ([("A", 6801)], []))
-
-    def test_a_gap_by_hand(self):
-        """One switch is taken out: each thread starts again behind it, at a period of its own."""
-        kernel = Kernel(self.KINDS[0], random.Random(4)).ran(60_000)
-        into_a = [place for place, line in enumerate(kernel.lines) if "next_pid=10" in line]
-        half = into_a[len(into_a) // 2]
-        found, err = self.starts(kernel, kernel.lines[:half] + kernel.lines[half + 1:], self.KINDS[0])
-        self.assertEqual((sum("an event is missing" in line for line in err), sorted(name for name, _ in found)), (1, ["A", "A", "B", "B"]))
-        self.assertTrue(all(at in kernel.begins[name] for name, at in found))
 
 
 class Gaps(Case):
@@ -444,17 +432,9 @@ class AsItComes(Case):
         """A run that has the lines on standard input."""
         return subprocess.run([*AS_IT_COMES, *words], input="\n".join(lines) + "\n", capture_output=True, text=True)
 
-    def test_the_same_rows_from_a_pipe(self):
-        """Also in nanoseconds, as they come."""
-        lines = turns(3)
-        whole = self.rows(*lines)
-        ran = subprocess.run([*AS_IT_COMES[:-1]], input="\n".join(lines) + "\n", capture_output=True, text=True)
-        self.assertEqual((ran.returncode, ran.stdout), (0, trace(whole)))
-        told = " ".join(f"{at}000,{rest}" if at != "0" else f"{at},{rest}" for at, rest in (row.split(",", 1) for row in whole.split()))
-        self.assertEqual(self.piped(lines).stdout, trace(told, "at_ns"))
-
     def test_rows_are_written_while_it_is_read(self):
-        """What is 100 ms older than the newest event, and 10 ms that wait for late ones, has been written."""
+        """What is 100 ms older than the newest event, and 10 ms that wait for late ones, has been written; in the end the rows are the
+        same in nanoseconds. From a pipe they are those of a file."""
         lines = turns(4)
         with subprocess.Popen(AS_IT_COMES, text=True, stdin=subprocess.PIPE, stdout=subprocess.PIPE, stderr=subprocess.PIPE) as ran:
             ran.stdin.write("\n".join(lines[:8]) + "\n")
@@ -464,8 +444,12 @@ class AsItComes(Case):
             ran.stdin.close()
             rest, err = ran.stdout.read(), ran.stderr.read()
         self.assertEqual(front, trace("0,cpu3,start,A 5000,cpu3,run,A 305000,cpu3,stop, 305000,cpu3,block,A", "at_ns"))
-        self.assertEqual((ran.returncode, front + rest), (0, self.piped(lines).stdout))
+        whole = self.rows(*lines)
+        told = " ".join(f"{int(at) * 1000},{row}" for at, row in (row.split(",", 1) for row in whole.split()))
+        self.assertEqual((ran.returncode, front + rest), (0, trace(told, "at_ns")))
         self.assertIn("no mark says when the recording was stopped", err)
+        ran = subprocess.run(AS_IT_COMES[:-1], input="\n".join(lines) + "\n", capture_output=True, text=True)
+        self.assertEqual((ran.returncode, ran.stdout), (0, trace(whole)))
 
     def test_events_that_come_late_are_put_in_order(self):
         """The buffers of two processors, one emptied behind the other; 10 ms late is in time, and more is not."""

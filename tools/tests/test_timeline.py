@@ -180,9 +180,7 @@ class Refusals(Case):
         start, end, part = "0,cpu0,start,A", "9,,end,", {"A": "100/20"}
         for cause, rows, *words in (
             *((f"trace.csv:3: {cause}", f"{start} {row} {end}") for cause, row in (
-                ("NotBlocked: A is not blocked", "5,cpu0,wake,A"), ("WrongCore: A stands on cpu0", "5,cpu1,run,A"),
-                ("CoreIdle: nothing has the core", "5,cpu0,stop,"), ("BadRow: a row has four fields", "5,cpu0,run"),
-                ("OutOfRange: ", "9" * 5000 + ",cpu0,run,A"), ("BadRow: a line of more than", "5,cpu0,run," + "A" * 140_000))),
+                ("WrongCore: A stands on cpu0", "5,cpu1,run,A"), ("BadRow: a line of more than", "5,cpu0,run," + "A" * 140_000))),
             ("trace.csv:2: NotStarted: A was not started", f"5,cpu0,run,A {end}"), ("trace.csv: its last row is no `end`", start),
             ("/nowhere/system.toml: No such file or directory\n", end, "--system=/nowhere/system.toml"),
             ("nothing is between", TURNS, "--from=2000"), ("nothing is between", TURNS, "--from=500", "--until=500"),
