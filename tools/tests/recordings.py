@@ -1,15 +1,9 @@
-"""A recording of 24 VCPUs on four cores, of any length, and what is to be told of it.
-
-    python3 tools/tests/recordings.py SECONDS [FROM] >recording.csv
-    python3 tools/tests/recordings.py --system >system.toml
-    python3 tools/tests/recordings.py SECONDS --told
+"""A recording of 24 VCPUs on four cores, of any length, and what `tools/host audit-all` is to say of it; bench/hour takes them too.
 
 In each frame of 10 ms the six VCPUs of a core have it one after another, two of them for a part of a longer period's budget. In every
 third frame the fourth sleeps behind its turn. In every 997th, on one core after another, the second has 100 microseconds less than its
-budget and the third 50 more. FROM is a second at which a frame of every kind begins, a multiple of 6: then it is the same recording from
-there on, as a trace of its own. The last words print what `tools/host audit-all` is to say."""
-import sys
-
+budget and the third 50 more. From a second on at which a frame of every kind begins, a multiple of 6, it is the same recording, as a trace
+of its own."""
 import support
 
 FRAME, CORES, EVERY = 10_000, 4, 997
@@ -79,12 +73,3 @@ def told(seconds):
             least, most = got - 100_000 * bool(short), got + 50_000 * bool(over)
             judged = f"judged={begun - asleep} short={short} over={over} least_ns={least} most_ns={most}"
             yield f"vcpu {name(core, place)} begun={begun} {judged}"
-
-
-if __name__ == "__main__":
-    if sys.argv[1:] == ["--system"]:
-        sys.stdout.write(system())
-    elif sys.argv[2:] == ["--told"]:
-        sys.stdout.writelines(f"{line}\n" for line in told(int(sys.argv[1])))
-    else:
-        sys.stdout.writelines(rows(*map(int, sys.argv[1:])))

@@ -13,7 +13,6 @@ from unittest import mock
 
 import recordings
 import support
-import test_from_ftrace
 import test_split
 from rtadmit_tools.program import Answer, Program
 from support import needs_program, program, run, top, trace, verb
@@ -167,25 +166,22 @@ class Elsewhere(Case):
         self.assertEqual(self.answered(Judge(PARTS), self.pieces, "--told"), (3, [], cause))
 
     def test_while_the_recording_goes_on(self):
-        """from-ftrace into split into audit-all: a piece is asked about before the next lines of the kernel's are there."""
-        log, host = self.folder / "log", top / "tools/host"
-        told = ["verdict=yes", "periods=0", "vcpu A begun={} judged=0 short=0 over=0 least_ns=- most_ns=300000"]
-        said = "\\n".join(told).format(2)
-        asked = self.room.script(f"[ $3 = /dev/null ] && exit 3\necho $3 >>{log}\nprintf '{said}\\n'")
-        self.system.write_text(test_split.system_of({"A": ("cpu3", 100_000, 300, True)}))
-        lines = test_from_ftrace.turns(5)
-        pipe = (f"{host} from-ftrace - --cpu=3=cpu3 --thread=11=A --as-it-comes | {host} split - {self.pieces} --system {self.system} "
-                f"--seconds 0.2 | {host} audit-all {self.system} - --program {asked}")
-        with subprocess.Popen(["sh", "-c", pipe], text=True, stdin=subprocess.PIPE, stdout=subprocess.PIPE, stderr=subprocess.PIPE) as ran:
-            ran.stdin.write("\n".join(lines[:10]) + "\n")
+        """A piece is asked about before the name of the next one is there."""
+        names, log = self.cut(TEXT, LOOSE, 20), self.folder / "log"
+        count = "vcpu {0} begun={1} judged={1} short=0 over=0 least_ns=2000 most_ns=8000".format
+        told = "\\n".join(["verdict=yes", "periods=4", count("A", 2), count("B", 2)])
+        asked = self.room.script(f"[ $3 = /dev/null ] && exit 3\necho $3 >>{log}\nprintf '{told}\\n'")
+        words = [top / "tools/host", "audit-all", self.system, "-", "--program", asked]
+        with subprocess.Popen(words, text=True, stdin=subprocess.PIPE, stdout=subprocess.PIPE, stderr=subprocess.PIPE) as ran:
+            ran.stdin.write(f"{names[0]}\n")
             ran.stdin.flush()
             until = time.monotonic() + 60
             while not log.exists() and time.monotonic() < until:
                 time.sleep(0.02)
-            early = log.read_text().split()
-            out, err = ran.communicate("\n".join(lines[10:]) + "\n")
-        self.assertEqual(early, [f"{self.pieces}/piece-000001.csv"])
-        self.assertEqual((ran.returncode, out), (0, "\n".join(told).format(9) + "\n"), err)
+            early = log.read_text()
+            out, err = ran.communicate(f"{names[1]}\n")
+        self.assertEqual(early, f"{names[0]}\n")
+        self.assertEqual((ran.returncode, out.splitlines()), (0, ["verdict=yes", "periods=8", count("A", 4), count("B", 4)]), err)
 
     def test_a_recording_that_is_cut_off(self):
         """In a row, or by the table: a no stands; where nothing is broken so far, that is no yes."""

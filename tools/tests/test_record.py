@@ -6,11 +6,10 @@ import os
 import pathlib
 import shutil
 import signal
-import sys
 from unittest import mock
 
 import support
-from support import command_line, run, verb
+from support import run, verb
 
 tool = verb("host", "record")
 make_folder = os.mkdir
@@ -204,23 +203,21 @@ class Ends(Case):
     def test_without_root(self):
         """The real recording, by a user who may not: refused before anything is changed."""
         reader, writer = os.pipe()
-        child, can_not_leave_root = os.fork(), 77
+        child, status = os.fork(), 77
         if child == 0:
-            status = can_not_leave_root
             try:
                 if os.geteuid() == 0:
                     os.setgroups([])
                     os.setgid(65534)
                     os.setuid(65534)
-                sys.stderr = os.fdopen(writer, "w")
-                status = command_line.main("host", ["record", "/nowhere/recording", "calc@0=6000/20000", "--seconds=0.01"])
-                sys.stderr.flush()
+                status, _, err = run("host", "record", "/nowhere/recording", "calc@0=6000/20000", "--seconds=0.01")
+                os.write(writer, err.encode())
             finally:
                 os._exit(status)
         os.close(writer)
         with os.fdopen(reader) as file:
             told = file.read()
-        status = os.waitstatus_to_exitcode(os.waitpid(child, 0)[1])
-        if status == can_not_leave_root:
+        ended = os.waitstatus_to_exitcode(os.waitpid(child, 0)[1])
+        if ended == status:
             self.skipTest("root can't be left here")
-        self.assertEqual((status, told != ""), (3, True), told)
+        self.assertEqual((ended, told != ""), (3, True), told)

@@ -1,8 +1,6 @@
 """Tests of the checks of sources, by crates of a few lines: tools/gate goals (which names are counts), inner (which definitions a reader
-meets) and unused (what calls what), beside pages that let files stay or name functions; and the repository by its own pages."""
-import unittest
-
-from support import Checkout, run
+meets) and unused (what calls what), beside pages that let files stay or name functions. The gate runs them over this repository."""
+from support import Checkout
 
 
 def block(head, *body, by="    "):
@@ -216,13 +214,3 @@ class Unused(Checkout):
               for line, name in ((37, "Square"), (45, "Square"), (26, "settle"))]),
         ):
             self.assertEqual(self.unused(row), (int(bool(told)), told))
-
-
-class Repository(unittest.TestCase):
-    def test_the_pages_and_the_program_agree(self):
-        """And each edit of tests/mutants/ and of the crates can be applied."""
-        status, out, _ = run("gate", "unused", "--list")
-        self.assertEqual(status, 0)
-        self.assertTrue(any(line.split()[4:] == ["run_tree", "tests"] for line in out.splitlines()))
-        self.assertFalse(any(line.startswith(("rt_top ", "rtadmit ")) for line in out.splitlines()))
-        self.assertEqual(run("gate", "mutants", "--texts"), (0, "", ""))

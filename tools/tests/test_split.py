@@ -384,16 +384,11 @@ class Refusals(support.Case):
 
 
 class Pipe(support.Case):
-    """A recording that goes on, and one that is cut off."""
-
-    def piped(self):
+    def test_a_piece_is_told_while_the_recording_goes_on(self):
         self.file("system.toml", support.system(*Refusals.TWO))
         words = [sys.executable, "-B", str(top / "tools/host"), "split", "-", "--system", "system.toml", "--seconds", "0.00002", "out"]
         pipes = dict.fromkeys(("stdin", "stdout", "stderr"), subprocess.PIPE)
-        return subprocess.Popen(words, cwd=self.folder, text=True, **pipes)
-
-    def test_a_piece_is_told_while_the_recording_goes_on(self):
-        with self.piped() as ran:
+        with subprocess.Popen(words, cwd=self.folder, text=True, **pipes) as ran:
             ran.stdin.write(f"{FRONT}0,cpu0,start,A\n5,cpu0,run,A\n25,cpu0,run,A\n")
             ran.stdin.flush()
             self.assertEqual(ran.stdout.readline(), "out/piece-000001.csv\n")
@@ -401,11 +396,3 @@ class Pipe(support.Case):
             rest, complaint = ran.communicate("30,,end,\n")
         self.assertEqual((ran.returncode, rest, complaint), (0, "out/piece-000002.csv\n", ""))
         self.assertEqual(table_of(self.folder / "out")[1], 30)
-
-    def test_what_was_whole_stands_where_the_recording_is_cut_off(self):
-        with self.piped() as ran:
-            told, complaint = ran.communicate(f"{FRONT}0,cpu0,start,A\n25,cpu0,run,A\n25,cpu0,st")
-        self.assertEqual((ran.returncode, told), (1, "out/piece-000001.csv\n"))
-        self.assertEqual(complaint, "-:4: BadRow: a row has four fields (pieces that were whole before, and are kept: 1)\n")
-        self.assertEqual(sorted(os.listdir(self.folder / "out")), ["piece-000001.csv", "table.csv"])
-        self.assertEqual((self.folder / "out/table.csv").read_text().splitlines()[1:], ["piece-000001.csv,0,20000,20000,A,0,2"])
