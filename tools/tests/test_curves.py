@@ -1,13 +1,9 @@
-"""Tests of curves: the formulas against their definitions, what it marks, what it refuses, and that its texts fit."""
-import random
+"""Tests of curves: what it marks, by numbers that are worked out by hand, what it refuses, and that its texts fit."""
 import re
 import time
-import unittest
 import xml.dom.minidom
 
 import support
-from rtadmit_tools import formulas
-from rtadmit_tools.formulas import Task
 from support import needs_program, program, run, system, texts, top
 
 XEN = """verdict=yes
@@ -56,36 +52,6 @@ class Case(support.Case):
             self.assertTrue(inside and float(node.getAttribute("y")) <= height, text)
 
 
-class Formulas(unittest.TestCase):
-    def test_supply_is_the_least_of_all_windows(self):
-        """Of a budget that comes first in one period and last in each later one, wherever the window begins."""
-        for period in range(1, 7):
-            for budget in range(period + 1):
-                given = [at < budget or (at >= period and at % period >= period - budget) for at in range(8 * period)]
-                for window in range(1, 5 * period):
-                    least = min(sum(given[at:at + window]) for at in range(2 * period))
-                    self.assertEqual(formulas.supply(period, budget, window), least, (period, budget, window))
-
-    def test_demand_request_and_the_first_window_that_is_enough(self):
-        """Jobs arrive their whole jitter before the window begins, and then as often as they may."""
-        chance = random.Random(1)
-        for _ in range(200):
-            tasks = []
-            for number in range(chance.randint(1, 4)):
-                period = chance.randint(1, 9)
-                deadline = chance.randint(1, period)
-                tasks.append(Task(str(number), period, deadline, chance.randint(1, 3), chance.randint(0, deadline - 1)))
-            window, period, room = chance.randint(1, 40), chance.randint(1, 8), chance.randint(1, 60)
-            arrivals = lambda task, window: range(-task.jitter, window, task.period)
-            due = sum(task.work for task in tasks for at in arrivals(task, window) if at + task.deadline <= window)
-            asked = lambda window: tasks[0].work + sum(task.work for task in tasks[1:] for _ in arrivals(task, window))
-            self.assertEqual(formulas.demand(tasks, window), due)
-            self.assertEqual(formulas.request(tasks[0], tasks[1:], window), asked(window))
-            budget = chance.randint(1, period)
-            first = next((window for window in range(1, room + 1) if asked(window) <= formulas.supply(period, budget, window)), 0)
-            self.assertEqual(formulas.first_enough(asked, period, budget, room), first)
-
-
 class Pictures(Case):
     def test_earliest_deadline_first(self):
         """The numbers are those that docs/use/certificate.md goes through by hand. Each step is drawn: the demand rises at 50 and 75 alone,
@@ -112,11 +78,15 @@ class Pictures(Case):
         ), RATE, "leaf", yes(4, 75, "t2"))
         told = ("no window is marked: another task is the one that is short", "first window in which a budget of 4 is enough: 25 slots")
         self.tells(told, RATE, "leaf", yes(4, 75, "t2"), "--task=t1")
-        for sched, *windows in (("rm", 7, 2, 6), ("dm", 1, 7, 5), ("listed", 1, 3, 7)):
-            text = system("cpu0 edf", f"leaf cpu0 {sched} 1/1 a:90:1:50 b:70:2:60 c:70:4:50")
+        three = "a:90:1:50 b:70:2:60 c:70:4:50"
+        for part, *windows in (
+            (f"rm 1/1 {three}", 7, 2, 6), (f"dm 1/1 {three}", 1, 7, 5), (f"listed 1/1 {three}", 1, 3, 7),
+            # in 11 slots with a jitter of 3 there may be two jobs of a; and a job that is done at its deadline
+            ("listed 1/1 a:10:1:10:3 b:20:9", 1, 11), ("rm 1/1 a:5:5", 5),
+        ):
             for task, window in zip("abc", windows):
                 told = (f"first window in which a budget of 1 is enough: {window} slots",)
-                self.tells(told, text, "leaf", yes(1, period=1, how="given"), f"--task={task}")
+                self.tells(told, system("cpu0 edf", f"leaf cpu0 {part}"), "leaf", yes(1, period=1, how="given"), f"--task={task}")
 
     def test_given_budgets_and_refused_parts(self):
         """2 slots of the example are too few at 75, where 12 of 16 come; under rm 3 are, for t2."""
@@ -130,6 +100,8 @@ class Pictures(Case):
             (f"rm 10/3 {TASKS}", no("task=t2"), "marked window of 75 slots, by which the task must be done: 4 missing with a budget of 3"),
             ("edf 10 t:10:3:5 u:10:3:5", no("at=5"), "period 10 µs, no budget is enough; earliest deadline first",
              "marked window of 5 slots: 1 missing with a budget of 10"),
+            # with a jitter of 2 they may be due 3 slots behind their releases
+            ("edf 10 t:10:2:5:2 u:10:2:5:2", no("at=3"), "marked window of 3 slots: 1 missing with a budget of 10"),
         ):
             self.assertEqual(self.tells(told, system("cpu0 edf", f"leaf cpu0 {part}"), "leaf", answer, status=1).count("<path "), 2)
 
