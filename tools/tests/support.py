@@ -128,11 +128,13 @@ class Case(unittest.TestCase):
     def ran(self, kind, *words):
         return tuple(told if isinstance(told, int) else told.replace(f"{self.folder}/", "") for told in run(kind, *words))
 
+    def no(self, cause, told, status=1):
+        """What is told is a status, what came of it, here nothing, and last why."""
+        self.assertEqual((told[0], [*filter(None, told[1:-1])]), (status, []), told[-1])
+        self.assertIn(cause, told[-1])
+
     def refused(self, cause, kind, *words, status=1):
-        """Refused for a cause, and nothing is printed."""
-        ended, out, err = self.ran(kind, *words)
-        self.assertEqual((ended, out), (status, ""), err)
-        self.assertIn(cause, err)
+        self.no(cause, self.ran(kind, *words), status)
 
     def stand_in(self, *patches, **names):
         """Puts something in place of names of a module, up to the end of the test."""

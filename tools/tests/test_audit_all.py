@@ -206,9 +206,7 @@ class Elsewhere(Case):
 
 class Refusals(Case):
     def is_refused(self, cause, change=lambda text: text):
-        status, lines, err = self.answered(Judge(PARTS, change=change))
-        self.assertEqual((status, lines), (3, []))
-        self.assertIn(cause, err)
+        self.no(cause, self.answered(Judge(PARTS, change=change)), status=3)
 
     def test_answers_and_tables_that_do_not_fit(self):
         self.cut(TEXT, PARTS, 20)

@@ -162,7 +162,5 @@ class Refusals(Case):
         ):
             with self.subTest(told):
                 status, words = (more or [0])[0], more[1:]
-                ended, picture, err = self.drawn(text, "leaf", answer, *words, status=status)
-                self.assertEqual((ended, picture), (1, None))
-                self.assertIn(told, err)
+                self.no(told, self.drawn(text, "leaf", answer, *words, status=status))
         self.assertEqual(self.drawn(LEAF, "leaf", yes(3), "--other")[0], 2)

@@ -83,10 +83,9 @@ class Case(support.Case):
         return " ".join(out.splitlines()[1:])
 
     def is_refused(self, line, cause, *lines, **more):
-        status, out, err = self.translated(lines, **more)
-        self.assertEqual((status, out), (1, ""))
-        self.assertIn(cause, err)
-        self.assertTrue(err.startswith(f"recording:{line}: " if line else "recording: "), err)
+        told = self.translated(lines, **more)
+        self.no(cause, told)
+        self.assertTrue(told[2].startswith(f"recording:{line}: " if line else "recording: "), told)
 
     def gap(self, line, cause, *lines):
         """A gap is told, whatever stands behind it, here a sleep of a second and a start."""

@@ -46,9 +46,7 @@ class Case(support.Case):
     def nothing(self, cause, **words):
         """Refused, and nothing is left."""
         before = sorted(self.out.iterdir())
-        status, out, err = self.made(**words)
-        self.assertEqual((status, out), (1, ""), err)
-        self.assertIn(cause, err)
+        self.no(cause, self.made(**words))
         self.assertEqual(sorted(self.out.iterdir()), before)
 
     def packed(self, name):

@@ -186,11 +186,8 @@ class Refusals(Case):
             ("nothing is between", TURNS, "--from=2000"), ("nothing is between", TURNS, "--from=500", "--until=500"),
             ("--around needs the system file", TURNS, "--around=A@700000"),
         ):
-            status, told, err = self.drawn(rows, *words)
-            self.assertEqual((status, told), (1, []))
-            self.assertIn(cause, err)
-        status, _, err = self.drawn("0,cpu0,start,A 900000000,,end,", parts=part)
-        self.assertEqual((status, "more than 3000000 periods of A" in err), (1, True))
+            self.no(cause, self.drawn(rows, *words))
+        self.no("more than 3000000 periods of A", self.drawn("0,cpu0,start,A 900000000,,end,", parts=part))
         self.assertEqual(self.drawn(ONE, "--budget=C=7", parts=part)[::2], (1, "system.toml: it has no part C\n"))
         self.refused("no system file", "host", "timeline", self.folder / "trace.csv", f"--system={self.file('bad', '[[part]]')}")
         self.refused("trace.csv:1: BadHeader", "host", "timeline", self.file("trace.csv", "at,core,event,vcpu\n0,,end,\n"))
