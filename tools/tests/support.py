@@ -85,12 +85,12 @@ def peak(lines, *words):
     return int(most)
 
 
-class Room:
-    """A folder for the files of a test, which goes away with it."""
+class Case(unittest.TestCase):
+    """Tests with a folder of their own, which is left out of what a verb says."""
 
-    def __init__(self, test):
+    def setUp(self):
         held = tempfile.TemporaryDirectory()
-        test.addCleanup(held.cleanup)
+        self.addCleanup(held.cleanup)
         self.folder = pathlib.Path(held.name)
 
     def file(self, name, text):
@@ -117,14 +117,6 @@ class Room:
                         for key, (status, text) in zip(answers, pairs))
         return self.script(f'case "$1 $3" in\n{cases}*) exit {other} ;;\nesac')
 
-
-class Case(unittest.TestCase):
-    """Tests with a folder of their own, which is left out of what a verb says."""
-
-    def setUp(self):
-        self.room = Room(self)
-        self.folder, self.file = self.room.folder, self.room.file
-
     def ran(self, kind, *words):
         return tuple(told if isinstance(told, int) else told.replace(f"{self.folder}/", "") for told in run(kind, *words))
 
@@ -136,13 +128,12 @@ class Case(unittest.TestCase):
     def refused(self, cause, kind, *words, status=1):
         self.no(cause, self.ran(kind, *words), status)
 
-    def stand_in(self, *patches, **names):
-        """Puts something in place of names of a module, up to the end of the test."""
-        for module in patches:
-            for name, value in names.items():
-                patch = mock.patch.object(module, name, value)
-                patch.start()
-                self.addCleanup(patch.stop)
+    def stand_in(self, *modules, **names):
+        """Puts something in place of names of modules, up to the end of the test."""
+        for module in modules:
+            patch = mock.patch.multiple(module, **names)
+            patch.start()
+            self.addCleanup(patch.stop)
 
 
 class Checkout(Case):

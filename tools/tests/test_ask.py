@@ -105,7 +105,7 @@ class Asked(support.Case):
     def ask(self, words, status, text, *more):
         """The status, and what is told of a program's answer."""
         with contextlib.chdir(top):
-            found, out, err = run("host", "ask", *words.split(), *more, "--program", self.room.answering(text, status))
+            found, out, err = run("host", "ask", *words.split(), *more, "--program", self.answering(text, status))
         self.assertEqual((found, err), (status, ""))
         return out
 
@@ -133,7 +133,7 @@ class Asked(support.Case):
 
     def test_a_text_that_there_is_not(self):
         for text in ("verdict=yes\nguest A period=1\n", "part A B C D\n"):
-            asked = self.room.answering(text)
+            asked = self.answering(text)
             self.refused("a line that docs/use/formats.md does not have", "host", "ask", "admit", "F", "--json", "--program", asked)
 
     def test_annotations(self):

@@ -154,7 +154,7 @@ class Elsewhere(Case):
         self.cut(TEXT, PARTS, 20)
         answers = [Judge(PARTS).ask("tally", "", self.pieces / f"piece-00000{at}.csv") for at in (1, 2)]
         cases = "".join(f"*{at}.csv) printf '%s' '{answer.text}'; exit {answer.status} ;;\n" for at, answer in enumerate(answers, 1))
-        asked = self.room.script(f"case $3 in\n{cases}esac\nexit 3", "a program")
+        asked = self.script(f"case $3 in\n{cases}esac\nexit 3", "a program")
         status, out, _ = run("host", "audit-all", f"--program='{asked}'", self.system, self.pieces, "--parallel")
         self.assertEqual((status, len(out.splitlines())), (0, 2))
         self.assertIn(f"'{asked}' tally {self.system} {self.pieces}/piece-000001.csv >{self.pieces}/piece-000001.csv.told; echo", out)
@@ -170,7 +170,7 @@ class Elsewhere(Case):
         names, log = self.cut(TEXT, LOOSE, 20), self.folder / "log"
         count = "vcpu {0} begun={1} judged={1} short=0 over=0 least_ns=2000 most_ns=8000".format
         told = "\\n".join(["verdict=yes", "periods=4", count("A", 2), count("B", 2)])
-        asked = self.room.script(f"[ $3 = /dev/null ] && exit 3\necho $3 >>{log}\nprintf '{told}\\n'")
+        asked = self.script(f"[ $3 = /dev/null ] && exit 3\necho $3 >>{log}\nprintf '{told}\\n'")
         words = [top / "tools/host", "audit-all", self.system, "-", "--program", asked]
         with subprocess.Popen(words, text=True, stdin=subprocess.PIPE, stdout=subprocess.PIPE, stderr=subprocess.PIPE) as ran:
             ran.stdin.write(f"{names[0]}\n")

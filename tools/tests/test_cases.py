@@ -62,7 +62,7 @@ BAD = (
 class Cases(support.Case):
     def setUp(self):
         super().setUp()
-        self.program, self.cases = self.room.script(PROGRAM), self.folder / "tests/cases"
+        self.program, self.cases = self.script(PROGRAM), self.folder / "tests/cases"
         self.stand_in(tool, CASES=self.cases, FORMER=self.folder / "cases")
 
     def told(self, *names, **cases):

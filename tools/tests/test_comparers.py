@@ -106,11 +106,11 @@ ROWS = (
 )
 
 
-class Answers(unittest.TestCase):
+class Answers(support.Case):
     def test_each_row(self):
         for look, made, script, met, wrong in ROWS:
             with self.subTest(script=script, look=look.__name__):
-                asked = Program([support.Room(self).script(script)])
+                asked = Program([self.script(script)])
                 found, broken = comparing.looked_at(asked, look, None, False, (0, made))
                 self.assertEqual((dict(found), broken is None), (met, wrong is None), broken)
                 self.assertIn(wrong or "", broken or "")

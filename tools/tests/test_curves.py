@@ -29,7 +29,7 @@ class Case(support.Case):
         """The status, the picture and standard error, with a program that answers so."""
         file, out = self.file("system.toml", text) if isinstance(text, str) else text, self.folder / "out.svg"
         out.unlink(missing_ok=True)
-        ended, _, err = self.ran("host", "curves", file, name, out, "--program", self.room.answering(answer, status), *words)
+        ended, _, err = self.ran("host", "curves", file, name, out, "--program", self.answering(answer, status), *words)
         return ended, out.read_text() if out.exists() else None, err
 
     def tells(self, told, *given, **more):

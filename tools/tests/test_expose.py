@@ -51,7 +51,7 @@ class Expose(support.Case):
         """The status, what is printed, the workload, and what is complained of, with a program that answers so."""
         file, out = self.file("system.toml", cores_text(core)), self.folder / "out.csv"
         out.unlink(missing_ok=True)
-        status, told, err = self.ran("host", "expose", file, f"c0v{place}", out, "--program", self.room.asked(answers))
+        status, told, err = self.ran("host", "expose", file, f"c0v{place}", out, "--program", self.asked(answers))
         return status, told, out.read_text() if out.exists() else None, err
 
     def workload(self, core, place):

@@ -84,7 +84,7 @@ RULES = {"budget = 11": "budget: optional, 1 to period; ", "1,cpu0,stop,\n": "Co
 class Rows(support.Case):
     def told(self, fault, told, rule, *words):
         """What is told of a fault, which is what the program says."""
-        words = [self.folder / "host.toml", *words, "--program", self.room.answering(f"fault={fault}\n", 3)]
+        words = [self.folder / "host.toml", *words, "--program", self.answering(f"fault={fault}\n", 3)]
         status, out, err = self.ran("host", "why", *words)
         lines = out.splitlines()
         self.assertEqual((status, err, lines[2][:len(told)]), (3, "", told), out)

@@ -114,7 +114,7 @@ def told_calls(share, runtime, other, more=""):
 
 class ToLinux(support.Case):
     def call(self, *words, text=HOST, answer=ANSWER, status=0):
-        return self.ran("host", "to-linux", self.file("host.toml", text), "--program", self.room.answering(answer, status), *words)
+        return self.ran("host", "to-linux", self.file("host.toml", text), "--program", self.answering(answer, status), *words)
 
     def test_a_call_a_thread(self):
         """Also with a tick, which an audit lets pass where a part has extra time."""

@@ -43,7 +43,7 @@ class Crates(Checkout):
         self.place, self.log = self.folder / "room", self.folder / "ran"
         self.write({f"crates/{name}/src/lib.rt": "let a = 1;\nlet b = 2;\nlet b = 2;\n" for name in ("low", "high")})
         self.write({"crates.txt": "# lowest first\nlow:\nhigh: low csv\n", "HANDLES": "Handles allowed: none.\n"})
-        self.room.script(RT, "bin/rt")
+        self.script(RT, "bin/rt")
         found = mock.patch.dict(os.environ, PATH=f"{self.folder / 'bin'}:{os.environ['PATH']}", RAN=str(self.log), EACH="")
         found.start()
         self.addCleanup(found.stop)
@@ -284,7 +284,7 @@ class Tries(Crates):
     def test_a_run_that_is_stopped_goes_on_where_it_was(self):
         self.edits(high__one=(EDIT, REFUSED), low__two=(EDIT, REFUSED))
         waits = '[ "$2" = high ] || [ -e "$RAN.2" ] || { touch "$RAN.2"; sleep 60; }; echo "$2 '
-        self.room.script(RT.replace('echo "$2 ', waits), "bin/rt")
+        self.script(RT.replace('echo "$2 ', waits), "bin/rt")
         shutil.copytree(top / "tools/rtadmit_tools", self.top / "tools/rtadmit_tools")
         shutil.copy(top / "tools/gate", self.top / "tools/gate")
         words = [self.top / "tools/gate", "mutants", "--room", self.place]

@@ -16,7 +16,7 @@ class Periods(support.Case):
         """The status, what is printed, the texts of the picture and standard error, with a program that answers `choose FILE leaf LOW HIGH`
         so, and anything else by the usage."""
         cases = "".join(f"'choose leaf {at[0]} {at[1]}') printf '{text}'; exit {status};;\n" for at, (status, text) in answers.items())
-        asked = self.room.script(f'case "$1 $3 $4 $5" in\n{cases}*) echo usage; exit 2;;\nesac')
+        asked = self.script(f'case "$1 $3 $4 $5" in\n{cases}*) echo usage; exit 2;;\nesac')
         file, out = self.file("system.toml", system("cpu0 edf", "leaf cpu0 edf 10 t1:50:7 t2:75:9")), self.folder / "out.svg"
         out.unlink(missing_ok=True)
         status, printed, err = run("host", "periods", file, "leaf", low, high, out, *words, f"--program={asked}")

@@ -97,7 +97,7 @@ class Text(html.parser.HTMLParser):
 class Case(support.Case):
     def report(self, answers, *files, more=(), other=2):
         """The status, the page and standard error, with a program of these answers, or of a shell's lines."""
-        self.program = self.room.script(answers) if isinstance(answers, str) else self.room.asked(answers, other)
+        self.program = self.script(answers) if isinstance(answers, str) else self.asked(answers, other)
         path = self.folder / "out.html"
         path.unlink(missing_ok=True)
         status, out, err = run("host", "report", *files, path, "--program", self.program, *more)

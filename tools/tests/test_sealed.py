@@ -69,7 +69,7 @@ class Evidence(Case):
 
     def answer(self, **changes):
         """Makes a program, and what a gate says of it."""
-        self.program = self.room.asked(ANSWERS | changes)
+        self.program = self.asked(ANSWERS | changes)
         self.told = f"program sha256={digest(self.program)} {GATE_TELLS}\n"
         self.gate = self.file("gate", "".join(f"line {at}\n" for at in range(1, 31)) + self.told)
 
@@ -114,7 +114,7 @@ class Evidence(Case):
 
     def test_a_no_without_a_trace(self):
         no = "verdict=no\noverfull part leaf at=50\n"
-        self.program = self.room.asked({"admit": (1, no), "certify": (1, no)})
+        self.program = self.asked({"admit": (1, no), "certify": (1, no)})
         self.assertEqual(self.made(file=top / "examples/guest-short.toml", trace=False, more=["--unproved"])[0], 0)
         self.assertFalse({"trace.csv", "certificate.json"} & {path.name for path in (self.out / "e").iterdir()})
         self.assertIn(f"$ rtadmit certify system.toml\n{no}status 1\n", self.text("verdicts.txt"))
@@ -245,7 +245,7 @@ class Release(Case):
         self.gate.unlink()
         self.nothing("gate.txt: No such file")
         self.gate.write_text(line)
-        self.nothing("is not what the gate left", program=self.room.script("echo rtadmit 7.1 # another", "other"))
+        self.nothing("is not what the gate left", program=self.script("echo rtadmit 7.1 # another", "other"))
         nowhere = self.folder / "nowhere"
         self.nothing("nowhere: No such file", program=nowhere)
         self.refused("nowhere: No such file", "gate", "program-sum", "--program", nowhere)

@@ -78,7 +78,7 @@ class Rules(Case):
 
 class Comparing(Case):
     def test_a_program_that_always_says_yes(self):
-        status, told, _ = run("gate", "checkers", "--count=1", "--program", self.room.script("echo verdict=yes"))
+        status, told, _ = run("gate", "checkers", "--count=1", "--program", self.script("echo verdict=yes"))
         self.assertEqual(status, 1)
         self.assertIn("; 0 flaw=Nodes (at least 1)", told)
         self.assertIn("\nsecond-checker: [Answer(status=1", told)

@@ -70,10 +70,10 @@ class Periods(Case):
 
     def test_a_budget_that_is_left_out(self):
         """It is asked of the program, where it is not given."""
-        asked = f"--program={self.room.answering(f'verdict=yes{chr(10)}part A period=100 budget=45 computed{chr(10)}')}"
+        asked = f"--program={self.answering(f'verdict=yes{chr(10)}part A period=100 budget=45 computed{chr(10)}')}"
         self.assertEqual(self.periods(ONE, asked, parts={"A": "100"}), "60/45 over")
         self.assertEqual(self.periods(ONE, asked, "--budget=A=70", parts={"A": "100"}), "60/70 short")
-        self.room.answering("verdict=no\noverfull part A at=7\n", 1)
+        self.answering("verdict=no\noverfull part A at=7\n", 1)
         status, told, err = self.drawn(ONE, asked, parts={"A": "100"})
         self.assertEqual((status, err), (0, "system.toml: admit gives no budgets: verdict=no overfull part A at=7 (status 1)\n"))
         self.assertIn("60/?", told)

@@ -232,7 +232,7 @@ class Copies(Case):
     def test_the_program_is_asked_about_the_same_system(self):
         """A copy of each example says the same."""
         self.stand_in(tool, program_of=program_of)
-        asked, copy = self.room.script('[ "$2" = /dev/stdin ] && cat >"${0%/*}/copy"\necho verdict=yes'), self.folder / "copy"
+        asked, copy = self.script('[ "$2" = /dev/stdin ] && cat >"${0%/*}/copy"\necho verdict=yes'), self.folder / "copy"
         for path in sorted((top / "examples").glob("*.toml")):
             if path.stem != "refused":
                 self.assertEqual(run("host", "why", path, f"--program={asked}")[0], 0)
@@ -255,8 +255,8 @@ class Refusals(Case):
             (told("overfull part A at=40"), "5 slots are asked for in 40 slots, and 15 are sure"),
             ('[ "$2" = /dev/stdin ] && exit 0; ' + over, "a copy as this tool reads it is answered status 0, and the file"),
         ):
-            self.refused(cause, "host", "why", self.path, f"--program={self.room.script(script)}", status=3)
-        status, out, err = run("host", "why", self.path, f"--program={self.room.script(over)}")
+            self.refused(cause, "host", "why", self.path, f"--program={self.script(script)}", status=3)
+        status, out, err = run("host", "why", self.path, f"--program={self.script(over)}")
         self.assertEqual((status, err), (1, ""))
         self.assertTrue(out.endswith("\n\nNo change that was tried helps by itself.\n"), out)
 

@@ -102,7 +102,7 @@ part inner period=5 budget=1 computed
 
 class ToXl(support.Case):
     def call(self, text=HOST, answer=ANSWER, status=0, words=()):
-        return self.ran("host", "to-xl", self.file("host.toml", text), "--program", self.room.answering(answer, status), *words)
+        return self.ran("host", "to-xl", self.file("host.toml", text), "--program", self.answering(answer, status), *words)
 
     def test_a_call_a_vcpu(self):
         """Who is exposed is said beside the calls."""
