@@ -1,14 +1,10 @@
-"""A recording of 24 VCPUs on four cores, of any length, and what is to be told of it.
-
-    python3 tools/tests/recordings.py SECONDS [FROM] >recording.csv
-    python3 tools/tests/recordings.py --system >system.toml
-    python3 tools/tests/recordings.py SECONDS --told
+"""A recording of 24 VCPUs on four cores, of any length, and what `tools/host audit-all` is to say of it; bench/hour takes them too.
 
 In each frame of 10 ms the six VCPUs of a core have it one after another, two of them for a part of a longer period's budget. In every
 third frame the fourth sleeps behind its turn. In every 997th, on one core after another, the second has 100 microseconds less than its
-budget and the third 50 more. FROM is a second at which a frame of every kind begins, a multiple of 6: then it is the same recording from
-there on, as a trace of its own. The last words print what `tools/host audit-all` is to say."""
-import sys
+budget and the third 50 more. From a second on at which a frame of every kind begins, a multiple of 6, it is the same recording, as a trace
+of its own."""
+import support
 
 FRAME, CORES, EVERY = 10_000, 4, 997
 # the period of each VCPU of a core, and what it gets in a frame
@@ -29,12 +25,9 @@ def is_broken(frame, core):
 
 
 def system():
-    told = ["format = 1", *(f'[[core]]\nname = "c{core}"\nsched = "edf"' for core in range(CORES))]
-    for core in range(CORES):
-        for place, (period, _) in enumerate(VCPUS):
-            told.append(f'[[part]]\nname = "{name(core, place)}"\nparent = "c{core}"\nsched = "edf"\nperiod = {period}\nbudget = {budget(place)}')
-            told.append('[[part.task]]\nname = "any"\nperiod = 1000000\nwork = 1')
-    return "\n".join(told) + "\n"
+    vcpus = [(core, place, period) for core in range(CORES) for place, (period, _) in enumerate(VCPUS)]
+    return support.system(*(f"c{core} edf" for core in range(CORES)), *(
+        f"{name(core, place)} c{core} edf {period}/{budget(place)} any:1000000:1" for core, place, period in vcpus))
 
 
 def frame_rows(frame, core, first):
@@ -78,13 +71,5 @@ def told(seconds):
             asleep = len(frames) // 3 if place == 3 else 0
             short, over = (len(broken[core]) if place == which else 0 for which in (1, 2))
             least, most = got - 100_000 * bool(short), got + 50_000 * bool(over)
-            yield f"vcpu {name(core, place)} begun={begun} judged={begun - asleep} short={short} over={over} least_ns={least} most_ns={most}"
-
-
-if __name__ == "__main__":
-    if sys.argv[1:] == ["--system"]:
-        sys.stdout.write(system())
-    elif sys.argv[2:] == ["--told"]:
-        sys.stdout.writelines(f"{line}\n" for line in told(int(sys.argv[1])))
-    else:
-        sys.stdout.writelines(rows(*map(int, sys.argv[1:])))
+            judged = f"judged={begun - asleep} short={short} over={over} least_ns={least} most_ns={most}"
+            yield f"vcpu {name(core, place)} begun={begun} {judged}"

@@ -1,7 +1,6 @@
 """Tests of tools/gate cases, over cases of their own and a program that is a few lines of shell."""
 import json
-import unittest
-from unittest import mock
+import shutil
 
 import support
 from rtadmit_tools import comparing
@@ -19,113 +18,96 @@ PROGRAM = """case "$1" in
 esac"""
 
 
-def rows(*told, **table):
-    return json.dumps({"rows": told, **table})
+def case(args=None, **files):
+    """The files of a case; `rows` are those of its table, with the other keys of the table as the last."""
+    if "rows" in files:
+        *rows, table = files.pop("rows")
+        files["rows.json"] = json.dumps({"rows": rows, **table})
+    return files if args is None else {"args": args, **files}
 
 
-class Room(unittest.TestCase):
+# how many pass, and the files
+GOOD = (
+    (1, case("print\nsystem\n", system="x\ny", stdout="x\ny")), (1, case("fail\nsystem\n", system="x", stdout="x", status="3\n")),
+    (1, case("count\n\n b \n", stdout="3\n<count>\n<>\n< b >\n")), (1, case("", stdout="")), (1, case("\n", stdout="")),
+    # only copies of the files lie where it runs, and nothing is on standard input
+    (1, case("list\n", system="x", stdout="system\n", status="0\n")), (1, case("read\n0\n", stdout="")),
+    (2, case("fail\nsystem\n", rows=(["", "x  z", 3], ["y", "x y z", 3], {"file": "system", "front": "x ", "back": " z"}))),
+    (1, case("list\n", system="y", rows=(["x", "system\ntrace\n", 0], {"file": "trace"}))),
+    (2, case("print\nsystem\n", rows=(["x"], ["y", "y", 0], {"file": "system", "printed": "x", "status": 0}))),
+    (2, case(system="x", rows=([["fail", "system"]], [["print", "system"], "x", 0], {"printed": "x", "status": 3}))),
+    (1, case(rows=([[], "", 0], {}))),
+)
+TABLE, KEYS = "its rows.json is no table", "its rows.json has no row, or a key of no table"
+# what is told, by its front and whole, and the files
+BAD = (
+    (["standard output differs:", "    -'z\\n'", "    +'y\\n'"], case("print\nsystem\n", system="x\ny\n", stdout="x\nz\n")),
+    (["standard output differs:", "    -'x\\n'", "    +'x'"], case("print\nsystem\n", system="x", stdout="x\n")),
+    (["status 3 in place of 0"], case("fail\nsystem\n", system="x", stdout="x")),
+    (["grumble system: standard error is b'loudly\\n'"], case("grumble\nsystem\n", system="x", stdout="x")),
+    (["it has no file args"], case(stdout="")), (["it has no file stdout"], case("list\n")),
+    (["its status is no number below 256: 'yes'"], case("list\n", stdout="", status="yes\n")),
+    (["it has rows.json and what is printed beside it"], case("list\n", stdout="", rows=(["", "", 0], {"file": "x"}))),
+    (["it has no file args"], case(rows=(["x", "x", 0], {"file": "system"}))),
+    (["it has args beside words of its own"], case("list\n", rows=([["list"], "", 0], {}))),
+    *(([KEYS], case("list\n", rows=rows)) for rows in ((["", "", 0], {"file": "x", "head": ""}), ({"file": "x"},), ({},))),
+    *(([f"{TABLE}: {fault}"], case("list\n", rows=rows)) for fault, *rows in (
+        ("ValueError", ["", ""], {"file": "x"}), ("KeyError('file')", ["x", "", 0], {}), ("TypeError", [0, "", 0], {"file": "x"}),
+        ("KeyError('printed')", [""], {"file": "x", "status": 0}))),
+    *(([f"{TABLE}: {fault}"], {"args": "list\n", "rows.json": text}) for fault, text in (("JSONDecodeError", ""), ("TypeError", "[]"))),
+    ([TABLE], case(rows=([[0], "", 0], {}))),
+)
+
+
+class Cases(support.Case):
     def setUp(self):
-        self.room = support.Room(self)
-        self.program, self.number = self.room.script(PROGRAM), 0
-
-    def case(self, name, files):
-        folder = tool.CASES / name
-        folder.mkdir(parents=True)
-        for file, text in files.items():
-            (folder / file).write_bytes(text.encode())
+        super().setUp()
+        self.program, self.cases = self.script(PROGRAM), self.folder / "tests/cases"
+        self.stand_in(tool, CASES=self.cases, FORMER=self.folder / "cases")
 
     def told(self, *names, **cases):
-        """The status and the lines where these are the cases, besides what is on standard error."""
-        self.number += 1
-        folder = self.room.folder / str(self.number)
-        for patched in (mock.patch.object(tool, "CASES", folder / "tests/cases"), mock.patch.object(tool, "FORMER", folder / "cases")):
-            patched.start()
-            self.addCleanup(patched.stop)
+        """The status and the lines where these are the cases, with __ for the / of their names, besides what is on standard error."""
+        shutil.rmtree(self.cases, ignore_errors=True)
         for name, files in cases.items():
-            self.case(name.replace("__", "/"), files)
+            for file, text in files.items():
+                self.file(f"tests/cases/{name.replace('__', '/')}/{file}", text)
         status, out, err = support.run("gate", "cases", "--program", self.program, *names)
         return status, (out or err).splitlines()
 
-
-class Cases(Room):
     def test_those_that_pass(self):
-        for count, files in (
-            (1, {"args": "print\nsystem\n", "system": "x\ny", "stdout": "x\ny"}),
-            (1, {"args": "fail\nsystem\n", "system": "x", "stdout": "x", "status": "3\n"}),
-            (1, {"args": "count\n\n b \n", "stdout": "3\n<count>\n<>\n< b >\n"}),
-            (1, {"args": "", "stdout": ""}),
-            (1, {"args": "\n", "stdout": ""}),
-            # only copies of the files lie where it runs, and nothing is on standard input
-            (1, {"args": "list\n", "system": "x", "stdout": "system\n", "status": "0\n"}),
-            (1, {"args": "read\n0\n", "stdout": ""}),
-            (2, {"args": "fail\nsystem\n", "rows.json": rows(["", "x  z", 3], ["y", "x y z", 3], file="system", front="x ", back=" z")}),
-            (1, {"args": "list\n", "system": "y", "rows.json": rows(["x", "system\ntrace\n", 0], file="trace")}),
-            (2, {"args": "print\nsystem\n", "rows.json": rows(["x"], ["y", "y", 0], file="system", printed="x", status=0)}),
-            (2, {"system": "x", "rows.json": rows([["fail", "system"]], [["print", "system"], "x", 0], printed="x", status=3)}),
-            (1, {"rows.json": rows([[], "", 0])}),
-        ):
-            with self.subTest(files=files):
-                self.assertEqual(self.told(command__good=files), (0, [f"cases: {count} of {count} hold"]))
-                self.assertFalse((tool.CASES / "command/good/left-behind").exists())
+        for count, files in GOOD:
+            self.assertEqual(self.told(command__good=files), (0, [f"cases: {count} of {count} hold"]), files)
+            self.assertFalse((self.cases / "command/good/left-behind").exists())
 
     def test_those_that_fail(self):
-        table = "its rows.json is no table"
-        for files, *lines in (
-            ({"args": "print\nsystem\n", "system": "x\ny\n", "stdout": "x\nz\n"}, "standard output differs:", "    -'z\\n'", "    +'y\\n'"),
-            ({"args": "print\nsystem\n", "system": "x", "stdout": "x\n"}, "standard output differs:", "    -'x\\n'", "    +'x'"),
-            ({"args": "fail\nsystem\n", "system": "x", "stdout": "x"}, "status 3 in place of 0"),
-            ({"args": "grumble\nsystem\n", "system": "x", "stdout": "x"}, "grumble system: standard error is b'loudly\\n'"),
-            ({"stdout": ""}, "it has no file args"),
-            ({"args": "list\n"}, "it has no file stdout"),
-            ({"args": "list\n", "stdout": "", "status": "yes\n"}, "its status is no number below 256: 'yes'"),
-            ({"args": "list\n", "stdout": "", "rows.json": rows(["", "", 0], file="x")}, "it has rows.json and what is printed beside it"),
-            ({"rows.json": rows(["x", "x", 0], file="system")}, "it has no file args"),
-            ({"args": "list\n", "rows.json": rows([["list"], "", 0])}, "it has args beside words of its own"),
-            ({"args": "list\n", "rows.json": rows(["", "", 0], file="x", head="")}, "its rows.json has no row, or a key of no table"),
-            ({"args": "list\n", "rows.json": rows(file="x")}, "its rows.json has no row, or a key of no table"),
-            ({"args": "list\n", "rows.json": rows()}, "its rows.json has no row, or a key of no table"),
-            *(({"args": "list\n", "rows.json": told}, f"{table}: {fault}") for told, fault in (
-                ("", "JSONDecodeError"), ("[]", "TypeError"), (rows(["", ""], file="x"), "ValueError"),
-                (rows(["x", "", 0]), "KeyError('file')"), (rows([0, "", 0], file="x"), "TypeError"),
-                (rows([""], file="x", status=0), "KeyError('printed')"))),
-            ({"rows.json": rows([[0], "", 0])}, table),
-        ):
-            with self.subTest(files=files):
-                status, told = self.told(command__bad=files)
-                self.assertEqual((status, told[1:]), (1, [*lines[1:], "cases: 0 of 1 hold"]))
-                self.assertTrue(told[0].startswith(f"cases: command/bad: {lines[0]}"), told[0])
-
-    def test_one_that_does_not_end(self):
-        with mock.patch.object(comparing, "SECONDS", 0.2):
-            status, told = self.told(command__bad={"args": "read\n5\n", "stdout": ""})
-        self.assertEqual(status, 1)
-        self.assertIn("timed out after 0.2 seconds", told[0])
-
-    def test_a_row_that_differs_is_told_by_its_number(self):
-        files = {"args": "print\nsystem\n", "rows.json": rows(["x", "x", 0], ["y", "z", 0], file="system")}
-        lines = ["cases: command/table, row 2: standard output differs:", "    -'z'", "    +'y'", "cases: 1 of 2 hold"]
-        self.assertEqual(self.told(command__table=files), (1, lines))
+        for (front, *lines), files in BAD:
+            status, (first, *told) = self.told(command__bad=files)
+            self.assertEqual((status, told), (1, [*lines, "cases: 0 of 1 hold"]), files)
+            self.assertTrue(first.startswith(f"cases: command/bad: {front}"), first)
+        self.stand_in(comparing, SECONDS=0.2)
+        status, (first, *_) = self.told(command__bad=case("read\n5\n", stdout=""))
+        self.assertEqual((status, "timed out after 0.2 seconds" in first), (1, True), first)
 
     def test_names(self):
-        good, bad = ({"args": "print\nsystem\n", "system": "x", "stdout": printed} for printed in "xy")
-        table = {"rows.json": rows([["count"], "1\n<count>\n", 0], [[], "", 0])}
-        cases = {"one__good": good, "one__bad": bad, "two__good": good, "three": table}
+        """Of folders and of cases; a row that differs is told by its number."""
+        good, bad = (case("print\nsystem\n", system="x", stdout=printed) for printed in "xy")
+        cases = {"one__good": good, "one__bad": bad, "two__good": good,
+                 "three": case(rows=([["count"], "1\n<count>\n", 0], [[], "", 0], {}))}
         self.assertEqual(self.told("one/good", **cases), (0, ["cases: 1 of 1 hold"]))
         self.assertEqual(self.told("two", "three", **cases), (0, ["cases: 3 of 3 hold"]))
         self.assertEqual(self.told("one", **cases)[1][-1], "cases: 1 of 2 hold")
         self.assertEqual(self.told(**cases)[1][-1], "cases: 4 of 5 hold")
+        table = case("print\nsystem\n", rows=(["x", "x", 0], ["y", "z", 0], {"file": "system"}))
+        lines = ["cases: command/table, row 2: standard output differs:", "    -'z'", "    +'y'", "cases: 1 of 2 hold"]
+        self.assertEqual(self.told(command__table=table), (1, lines))
 
     def test_refusals(self):
-        good = {"args": "", "stdout": ""}
-        self.assertEqual(self.told("one/other", "one/good", one__good=good), (1, ["no case has the name one/other"]))
+        self.assertEqual(self.told("one/other", "one/good", one__good=case("", stdout="")), (1, ["no case has the name one/other"]))
         self.assertIn("there is no case in ", self.told()[1][0])
-        tool.CASES.mkdir(parents=True)
-        self.assertIn("there is no case in ", support.run("gate", "cases", "--program", self.program)[2])
-        tool.FORMER.mkdir()
-        self.assertIn("no case runs there", support.run("gate", "cases", "--program", self.program)[2])
-        self.program = str(self.room.folder / "none")
-        self.assertEqual(self.told(one__good=good), (1, [f"{self.program}: No such file or directory"]))
-
-
-if __name__ == "__main__":
-    unittest.main()
+        self.cases.mkdir()
+        self.refused("there is no case in ", "gate", "cases", "--program", self.program)
+        for name in ("args", "stdout"):
+            self.file(f"tests/cases/one/{name}", "")
+        self.refused("none: No such file or directory", "gate", "cases", "--program", self.folder / "none")
+        (self.folder / "cases").mkdir()
+        self.refused("no case runs there", "gate", "cases", "--program", self.program)

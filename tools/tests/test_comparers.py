@@ -2,17 +2,21 @@
 share, and programs that answer wrong, which are a few lines of shell."""
 import argparse
 import contextlib
+import csv
 import io
 import pathlib
+import tomllib
 import unittest
 
 import support
 from rtadmit_tools import comparing
 from rtadmit_tools.comparing import core, part, task, tree
-from rtadmit_tools.program import Program
+from rtadmit_tools.program import Answer, Program, program_of
 from rtadmit_tools.system_file import System
+from support import needs_program, program, trace
 
-generated, responses, slacks, tallies = (support.verb("gate", name) for name in ("generated", "responses", "slacks", "tallies"))
+generated, responses, slacks, tallies, isolations, schedules, interfaces = (
+    support.verb("gate", name) for name in ("generated", "responses", "slacks", "tallies", "isolations", "schedules", "interfaces"))
 
 
 def guest(sched, period, budget, *tasks):
@@ -30,91 +34,89 @@ SLACK = """work=$(sed -n 's/^work = //p' "$2")
 if [ "$1" = slack ]; then echo verdict=yes; echo slack g0 t0 work="$work" most=MOST; else [ "$work" -le 5 ]; fi"""
 BORNE_OUT = {"tasks": 1, "short of the room": 1}
 
-SYSTEM = """format = 1
-[[core]]
-name = "c"
-sched = "edf"
-[[part]]
-name = "a"
-parent = "c"
-sched = "edf"
-period = 2
-budget = 1
-[[part]]
-name = "b"
-parent = "c"
-sched = "edf"
-period = 2
-budget = 1
-extra = true
-"""
-TRACE = """at_ns,core,what,vcpu
-0,c,start,a
-0,c,run,a
-1400,c,stop,
-2000,c,run,a
-2500,c,stop,
-4100,c,block,a
-4200,c,wake,a
-6100,c,run,a
-6400,c,stop,
-6500,,end,
-"""
-LINES = ["vcpu a begun=4 judged=2 short=1 over=1 least_ns=500 most_ns=1400", "vcpu b begun=0 judged=0 short=0 over=0 least_ns=- most_ns=-"]
+SYSTEM = support.system("c edf", "a c edf 2/1", "b c edf 2/1 extra")
+TRACE = trace("0,c,start,a 0,c,run,a 1400,c,stop, 2000,c,run,a 2500,c,stop, 4100,c,block,a 4200,c,wake,a 6100,c,run,a 6400,c,stop, "
+              "6500,,end,", "at_ns")
+LINES = ["vcpu a begun=4 judged=2 short=1 over=1 least_ns=500 most_ns=1400",
+         "vcpu b begun=0 judged=0 short=0 over=0 least_ns=- most_ns=-"]
+
+# two guests of 6 in 10 on one core, and their run: B has 4, and what B gets is seen 2 slots too late
+GUESTS = tree([core()], [part(name, "cpu0", "edf", 10, 6, [task("t", 100, 6)]) for name in "AB"])
+EARLY, START = (GUESTS, [], "early", 10), (GUESTS, [(0, "A", "start")], 10)
+LACKS = """verdict=no
+core cpu0 given=10 jobs=2 missed=1
+first B release=0 deadline=10 got=4 of=6
+part A given=6 jobs=0 missed=0
+part B given=4 jobs=0 missed=0"""
+RUN = "0,cpu0,start,A 0,cpu0,run,A 6,cpu0,stop, 10,,end,"
+
+CORE = [((10, 4), (10, 6))]
+BOTH = ["isolated c0v0 last=10 of=10", "isolated c0v1 last=10 of=10"]
+
+
+def says(status, *lines):
+    """A program that prints these lines."""
+    return "\n".join([*(f"echo '{line}'" for line in lines), f"exit {status}"])
 
 
 def tally(*lines):
     """A program whose audit is a no, and whose tally tells these lines behind it."""
-    return "\n".join(["echo verdict=no; echo over a", "[ $1 = audit ] && exit 1", *(f"echo '{line}'" for line in lines), "exit 1"])
+    return f"echo verdict=no; echo over a; [ $1 = audit ] && exit 1\n{says(1, *lines)}"
 
 
-def four_guests():
-    return generated.made(7, 1)[0]
+def kept_of(room, made):
+    """What is said of cores by their answer, where it fits them."""
+    isolations.kept_of(room, made)
+    return []
 
 
-# a program, how it is looked at, over what, what is met, and a part of what does not hold
+four_guests = generated.made(7, 1)[0]
+# how a program is looked at, over what, the program, what is met, and a part of what does not hold
 ROWS = (
-    ("echo verdict=yes", generated.certified, "", {}, "check system.toml larger.json: status 0 in place of 1"),
-    ("echo verdict=yes; echo more", generated.certified, "", {}, "check says more than yes"),
-    ("echo loudly >&2", generated.certified, "", {}, "standard error"),
-    ("exit 1", generated.certified, "", {}, None),
-    ('[ "$4" != worst ]', generated.never_misses, four_guests(), {}, "simulate"),
-    ("exit 0", generated.never_misses, four_guests(), {"let pass": 1}, None),
-    ("exit 1", generated.never_misses, four_guests(), {}, None),
-    ('[ "$1" != audit ]', generated.satisfied, "", {}, "audit"),
-    ("exit 0", generated.satisfied, "", {}, None),
-    (RESPONSE.format(7), responses.as_met, HALF, {"answered": 1}, None),
-    (RESPONSE.format(6), responses.as_met, HALF, {}, "wanted Answer(status=0"),
-    ("echo verdict=yes", responses.as_met, LATE, {}, "wanted Answer(status=1"),
-    ("echo verdict=no; echo overfull part leaf task=t0; exit 1", responses.as_met, LATE, {"refused": 1}, None),
-    ("echo loudly >&2; " + RESPONSE.format(3), responses.as_met, ONE, {}, "loudly"),
-    (SLACK.replace("MOST", "5"), slacks.borne_out, (HOST, False), BORNE_OUT, None),
-    (SLACK.replace("MOST", "5"), slacks.borne_out, (HOST, True), BORNE_OUT, None),
-    (SLACK.replace("MOST", "4"), slacks.borne_out, (HOST, False), {}, "with 5 it is otherwise"),
-    (SLACK.replace("MOST", "6"), slacks.borne_out, (HOST, False), {}, "with 6 it is otherwise"),
-    (SLACK.replace("MOST", "9"), slacks.borne_out, (HOST, False), {}, "from the work to the room"),
-    (SLACK.replace("g0 t0", "g0 t1"), slacks.borne_out, (HOST, False), {}, "status 0"),
-    (SLACK.replace("MOST", "5").replace("g0 t0", "g0 t1"), slacks.borne_out, (HOST, False), {}, "does not tell its tasks"),
-    (SLACK.replace("MOST", "6"), slacks.borne_out, (HOST.changed("g0.t0.work=6"), False), {}, "not refused as admit is"),
-    (tally(*LINES), tallies.told_as_counted, (SYSTEM, TRACE), {"not satisfied": 1}, None),
-    (tally(LINES[0]), tallies.told_as_counted, (SYSTEM, TRACE), {}, "counted:"),
-    (tally(LINES[0].replace("least_ns=500", "least_ns=0"), LINES[1]), tallies.told_as_counted, (SYSTEM, TRACE), {}, "counted:"),
-    (tally(), tallies.told_as_counted, (SYSTEM, TRACE), {}, "counted:"),
+    (generated.certified, "", "echo verdict=yes", {}, "check system.toml larger.json: status 0 in place of 1"),
+    (generated.certified, "", "echo verdict=yes; echo more", {}, "check says more than yes"),
+    (generated.certified, "", "echo loudly >&2", {}, "standard error"), (generated.certified, "", "exit 1", {}, None),
+    (generated.never_misses, four_guests, '[ "$4" != worst ]', {}, "simulate"),
+    (generated.never_misses, four_guests, "exit 0", {"let pass": 1}, None), (generated.never_misses, four_guests, "exit 1", {}, None),
+    (generated.satisfied, "", '[ "$1" != audit ]', {}, "audit"), (generated.satisfied, "", "exit 0", {}, None),
+    (responses.as_met, HALF, RESPONSE.format(7), {"answered": 1}, None),
+    (responses.as_met, HALF, RESPONSE.format(6), {}, "wanted Answer(status=0"),
+    (responses.as_met, LATE, "echo verdict=yes", {}, "wanted Answer(status=1"),
+    (responses.as_met, LATE, says(1, "verdict=no", "overfull part leaf task=t0"), {"refused": 1}, None),
+    (responses.as_met, ONE, "echo loudly >&2; " + RESPONSE.format(3), {}, "loudly"),
+    *((slacks.borne_out, (HOST, is_open), SLACK.replace("MOST", "5"), BORNE_OUT, None) for is_open in (False, True)),
+    *((slacks.borne_out, (HOST, False), SLACK.replace("MOST", most), {}, f"with {with_} it is otherwise")
+      for most, with_ in (("4", 5), ("6", 6))),
+    (slacks.borne_out, (HOST, False), SLACK.replace("MOST", "9"), {}, "from the work to the room"),
+    (slacks.borne_out, (HOST, False), SLACK.replace("g0 t0", "g0 t1"), {}, "status 0"),
+    (slacks.borne_out, (HOST, False), SLACK.replace("MOST", "5").replace("g0 t0", "g0 t1"), {}, "does not tell its tasks"),
+    (slacks.borne_out, (HOST.changed("g0.t0.work=6"), False), SLACK.replace("MOST", "6"), {}, "not refused as admit is"),
+    (tallies.told_as_counted, (SYSTEM, TRACE), tally(*LINES), {"not satisfied": 1}, None),
+    *((tallies.told_as_counted, (SYSTEM, TRACE), tally(*lines), {}, "counted:")
+      for lines in (LINES[:1], [LINES[0].replace("least_ns=500", "least_ns=0"), LINES[1]], [])),
+    (schedules.simulated, EARLY, says(1, LACKS), {"missed": 1}, None),
+    *((schedules.simulated, EARLY, says(1, text), {}, "slot by slot:")
+      for text in (LACKS.replace("missed=1", "missed=0"), LACKS.replace("got=4", "got=3"), "verdict=yes")),
+    (schedules.as_slot_by_slot, START, says(0, *trace(RUN.replace("6,", "7,")).split()), {}, "slot by slot:"),
+    (kept_of, CORE, says(0, "verdict=yes", *BOTH), {}, None),
+    # each part on a core has its line, with its period, and no other has one; and the verdict is that of the lines
+    *((kept_of, CORE, says(status, f"verdict={'no' if status else 'yes'}", *told), {}, "does not tell of each VCPU") for status, *told in (
+        (1, *BOTH), (0, BOTH[0], "isolated c0v2 last=10 of=10"), (0, *BOTH, "isolated on-c0v0 last=1 of=40"),
+        (0, "isolated c0v0 last=10 of=9", BOTH[1]), (1, *BOTH[::-1]), (0, "exposed c0v0 by=ties last=10 of=10", BOTH[1]))),
 )
 
 
-class Answers(unittest.TestCase):
+class Answers(support.Case):
     def test_each_row(self):
-        for script, look, made, met, wrong in ROWS:
+        for look, made, script, met, wrong in ROWS:
             with self.subTest(script=script, look=look.__name__):
-                program = Program([support.Room(self).script(script)])
-                found, broken = comparing.looked_at(program, look, None, False, (0, made))
-                self.assertEqual(dict(found), met)
+                asked = Program([self.script(script)])
+                found, broken = comparing.looked_at(asked, look, None, False, (0, made))
+                self.assertEqual((dict(found), broken is None), (met, wrong is None), broken)
                 self.assertIn(wrong or "", broken or "")
-                self.assertEqual(broken is None, wrong is None)
 
 
-class Loop(unittest.TestCase):
+class Loop(support.Case):
     def compared(self, look, inputs, keep=None, **how):
         """Whether all is well, and what is printed."""
         out = io.StringIO()
@@ -134,42 +136,53 @@ class Loop(unittest.TestCase):
             comparing.need(made != 1, "it is one\udc80")
             return []
 
-        folder = support.Room(self).folder
-        is_well, told = self.compared(look, range(3), folder / "kept")
+        is_well, told = self.compared(look, range(3), self.folder / "kept")
         self.assertEqual((is_well, told), (False, ["rows: input 1: it is one\\udc80", "-- file", "1�", "rows: 2 of 3 hold"]))
-        self.assertEqual([path.name for path in (folder / "kept").iterdir()], ["look-1"])
+        self.assertEqual([path.name for path in (self.folder / "kept").iterdir()], ["look-1"])
         self.assertEqual(self.compared(look, range(3), shows=False)[1], ["rows: input 1: it is one\\udc80", "rows: 2 of 3 hold"])
 
 
 class Made(unittest.TestCase):
     def test_they_are_the_same_on_each_run(self):
-        for made in (lambda seed: generated.made(seed, 3), lambda seed: list(tallies.made(seed, 3)),
-                     lambda seed: [system.text() for system, _ in slacks.made(seed, 3, 60, False)]):
+        slack_files = lambda seed, count: [system.text() for system, _ in slacks.made(seed, count, 60, False)]
+        for makes in (generated.made, tallies.made, schedules.some_runs, schedules.some_workloads, slack_files):
+            made = lambda seed: list(makes(seed, 3))
             self.assertEqual(made(7), made(7))
             self.assertNotEqual(made(7), made(8))
             self.assertNotEqual(made(7)[0], made(7)[1])
 
-    def test_the_first_of_a_seed(self):
-        system = generated.made(7, 1)[0][0]
-        self.assertEqual([table["sched"] for table in (*system["core"], *system["part"])], ["dm", "listed", "rm", "listed", "rm", "edf"])
-        self.assertEqual([table["parent"] for table in system["part"]], ["cpu0", "mid", "mid", "mid", "mid"])
-
-    def test_each_task_has_a_job_at_each_of_two_moments(self):
+    def test_what_is_generated(self):
+        """Each task has a job at each of two moments; one of two systems has a guest with extra time."""
         for system, releases in generated.made(11, 5):
             jobs = [row.split(",", 1) for row in releases.splitlines()[1:]]
             first, second = ([job for at, job in jobs if at == moment] for moment in ("0", "100"))
-            self.assertEqual(first, second)
-            self.assertEqual(len(first), sum(len(leaf["task"]) for leaf in system["part"]))
-
-    def test_one_of_two_systems_has_a_guest_with_extra_time(self):
+            self.assertEqual((first, len(first)), (second, sum(len(leaf["task"]) for leaf in system["part"])))
         self.assertEqual([generated.three_guests(place)["part"][1]["extra"] for place in range(4)], [True, False, True, False])
 
 
+CASES = pathlib.Path(__file__).resolve().parents[2] / "tests/cases"
+
+
+def cases(command, file):
+    """The worked cases of a command that are answered over a system whose budgets are given: the system, the rows, the other words, and
+    what is printed with which status."""
+    for folder in sorted((CASES / command).iterdir()):
+        files = all((folder / name).is_file() for name in ("stdout", file))
+        if files and not (folder / "stdout").read_text().startswith(("fault", "absent")):
+            system = tomllib.loads((folder / "system.toml").read_text())
+            status = int((folder / "status").read_text()) if (folder / "status").is_file() else 0
+            if all("budget" in one for one in system.get("part", ())):
+                rows = [[int(at), *rest] for at, *rest in list(csv.reader((folder / file).read_text().splitlines()))[1:]]
+                more = (folder / "args").read_text().split()[3:]
+                yield folder.name, {"part": []} | system, rows, more, Answer(status, (folder / "stdout").read_text())
+
+
 class Found(unittest.TestCase):
+    """What a plain search finds."""
+
     def test_responses(self):
         for of, worst in (
-            (ONE, [3]),
-            (HALF, [7]),
+            (ONE, [3]), (HALF, [7]),
             # a task waits for those that go first
             (guest("listed", 1, 1, (9, 9, 2), (8, 8, 3)), [2, 5]),
             # its jobs at 0 and 2 take the slots 0 and 2, and the other task has 1 and 3
@@ -178,17 +191,99 @@ class Found(unittest.TestCase):
             self.assertEqual(responses.search(of), (worst, set()))
         self.assertEqual(responses.search(LATE)[1], {0})
 
-    def test_counts_of_a_trace(self):
+    def test_counts_and_interfaces(self):
         self.assertEqual(tallies.counts(SYSTEM, TRACE), (LINES, 2, 2))
-
-    def test_interfaces(self):
-        interfaces = support.verb("gate", "interfaces")
         self.assertEqual([bin(slots) for slots in interfaces.lists(2, 1, 1)], ["0b10101"])
         self.assertEqual(interfaces.least_in_windows(2, 1, 2), [0, 0, 0, 1, 1])
         # of two jobs that are released together the one that goes first has the slot
         jobs = [(0, 0, 2, 1), (1, 0, 1, 1)]
         self.assertEqual([interfaces.is_in_time(sched, jobs, 0b11) for sched in ("edf", "dm", "rm", "listed")], [True, True, False, False])
 
+    def test_runs_of_the_worked_cases(self):
+        trees, workloads = list(cases("simulate", "releases.csv")), list(cases("rtds", "workload.csv"))
+        self.assertGreater(min(len(trees), len(workloads)), 5)
+        for name, system, rows, (pattern, slots), answer in trees:
+            jobs = [(at, leaf, of, int(work), int(*early or [0])) for at, leaf, of, work, *early in rows]
+            self.assertEqual(schedules.run_tree(system, jobs, pattern, int(slots)), answer, name)
+        for name, system, rows, (slots,), answer in workloads:
+            self.assertEqual(schedules.run_rtds(system, [tuple(row) for row in rows], int(slots)), answer.text, name)
 
-if __name__ == "__main__":
-    unittest.main()
+    def test_what_can_happen_on_small_cores(self):
+        for core, place, last, tie, reaches in (
+            (((4, 2), (6, 3)), 1, 6, True, True),
+            # the least of the sum, and in the other order of the file
+            (((6, 3), (4, 2)), 0, 6, True, False), (((10, 4), (10, 6)), 0, 10, False, False), (((5, 2), (10, 6)), 0, 5, True, True),
+            # three of equal periods, and one alone
+            (((3, 1), (3, 1), (3, 1)), 2, 3, False, False), (((5, 5),), 0, 5, True, False), (((5, 2),), 0, 2, True, False),
+            (((5, 2),), 0, 1, True, True),
+        ):
+            self.assertEqual(isolations.reaches_short(core, place, last, tie), reaches, (core, place, last))
+
+
+def taken(period, budget, slots):
+    """The most that a VCPU takes of the last slots before one of its periods ends."""
+    return slots // period * budget + min(budget, slots % period)
+
+
+class StandIn:
+    """A room in which `isolate` answers by a search for the least number of slots that is enough for a VCPU and all others; and the same
+    wrong."""
+
+    def __init__(self, taken=taken, own=True, past=0, tie=lambda other, place: other > place):
+        self.taken, self.own, self.past, self.tie = taken, own, past, tie
+
+    def write(self, name, system):
+        self.core = [(part["period"], part["budget"]) for part in system["part"]]
+        return name
+
+    def least(self, place, in_order):
+        period, budget = self.core[place]
+        for slots in range(budget, period + self.past + 1):
+            others = sum(self.taken(*vcpu, slots - (in_order and self.tie(other, place)))
+                         for other, vcpu in enumerate(self.core) if other != place)
+            if self.own * budget + others <= slots:
+                return slots
+        return None
+
+    def run(self, command, path):
+        assert command == "isolate", command
+        lines = []
+        for place, (period, _) in enumerate(self.core):
+            alone, in_order = (self.least(place, tie) for tie in (False, True))
+            how = "isolated c0v{}" if alone else "exposed c0v{} by=ties" if in_order else "exposed c0v{} by=block"
+            lines.append(how.format(place) + (f" last={alone or in_order} of={period}" if alone or in_order else ""))
+        status = any(line.startswith("exposed") for line in lines)
+        return Answer(int(status), "\n".join([f"verdict={'no' if status else 'yes'}", *lines]) + "\n")
+
+
+class Isolations(support.Case):
+    @staticmethod
+    def fault(room, core):
+        try:
+            isolations.small(room, core)
+        except comparing.Broken as fault:
+            return str(fault)
+        return None
+
+    def test_a_wrong_search_is_seen_on_a_small_core(self):
+        self.stand_in(isolations, exposed=lambda *_: [])
+        for name, room in {
+            "right": StandIn(),
+            "without the part of a begun period": StandIn(lambda period, budget, slots: slots // period * budget),
+            "the own budget left out": StandIn(own=False),
+            "a number of slots above the period": StandIn(past=4),
+            "ties for the later one": StandIn(tie=lambda other, place: other < place),
+            "ties for both": StandIn(tie=lambda other, place: True),
+            "one budget alone": StandIn(lambda period, budget, slots: min(budget, slots)),
+            "exposed where equal periods fit": StandIn(lambda period, budget, slots: -(-slots // period) * budget + (slots == period)),
+        }.items():
+            said = next(filter(None, (self.fault(room, core) for core in isolations.small_cores(2))), "")
+            self.assertRegex(said, "^$" if name == "right" else "all that can happen says something else|no order of ties makes it short")
+
+    @needs_program
+    def test_some_small_cores_and_random_runs(self):
+        looks = [(isolations.small, core) for core in list(isolations.small_cores(2))[::25]]
+        looks += [(isolations.over_workloads, made) for made in isolations.random_systems(3, 8)]
+        found = [comparing.looked_at(program_of(program()), look, None, False, (0, made)) for look, made in looks]
+        self.assertEqual([wrong for _, wrong in found if wrong], [])
+        self.assertGreater(sum(met["periods of isolated VCPUs"] for met, _ in found), 20)
