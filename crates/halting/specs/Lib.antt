@@ -1,0 +1,2 @@
+pub mod Stolen
+pub mod Halting

@@ -1,0 +1,5 @@
+pub mod Spared
+pub mod Short
+pub mod Guests
+pub mod Answered
+pub mod Existence
