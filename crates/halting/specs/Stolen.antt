@@ -1,6 +1,6 @@
 -- The time that is stolen from a VCPU. Two tests of moments say what the VCPU does: at which it is
 -- blocked, and at which it has its core. Moments are slots, nanoseconds or of any other unit.
-use Rattle.std.specs.Prelude.{◌≡◌, ℕ, suc, ◌+◌, ◌<◌, ◌≤◌, min, Bool, true, false, not, ◌&&◌, ◌||◌, List, map}
+use Rattle.std.specs.Prelude.{◌≡◌, ℕ, suc, ◌+◌, ◌-◌, ◌≤◌, min, Bool, true, false, not, ◌&&◌, ◌||◌, List, map}
 use Rattle.std.specs.List.{range_with_len}
 use Rattle.slot_model.specs.Supply.{GivesBudget}
 use Rattle.trace_file.specs.Periods.{begins, count_between, is_judged, time_got}

@@ -1,0 +1,4 @@
+pub mod Counted
+mod Stolen
+pub mod Halting
+pub mod Examples
