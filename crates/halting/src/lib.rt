@@ -4,6 +4,7 @@
 
 ghost use Rattle.halting.specs.Stolen.{TimesAddUp, AgreesWithAudit, IsSupplyWhereSpared};
 ghost use Rattle.halting.specs.Halting.{RunsAsAdmitted, KeepsDeadlines, StaysInTime};
+ghost use Rattle.halting.specs.Units.{PassesInUnits, ConstrainedInUnits};
 
 /// What is stolen in a period, beside what an audit counts there, and beside a supply.
 pub fn counts_stolen_time()
@@ -20,4 +21,11 @@ pub fn keeps_where_spared()
     ensures as_admitted { RunsAsAdmitted }
     ensures keeps { KeepsDeadlines }
     ensures in_time { StaysInTime }
+{}
+
+/// What passes its test under a budget passes it in each smaller unit: with all times so many times
+/// as long, as where slots are microseconds and moments nanoseconds.
+pub fn passes_in_units()
+    ensures passes { PassesInUnits }
+    ensures constrained { ConstrainedInUnits }
 {}
