@@ -12,7 +12,7 @@ use Rattle.tree_model.specs.Releases.{jobs_at}
 use Rattle.trace_file.specs.Rules.{is_vcpu}
 use Rattle.release_file.specs.declared.workload.Wake.{Wake}
 use Rattle.release_file.specs.Workload.{is_started, start_of, is_blocked_at, IsWorkload}
-use Rattle.rtds_sim.specs.Rtds.{RtdsRun}
+use Rattle.rtds_model.specs.Rtds.{RtdsRun}
 use Rattle.isolation.specs.InTrace.{IsRunLength}
 use Rattle.isolation.specs.Answers.{own_core}
 use Rattle.isolated_guests.specs.Guests.{HaltingGuest}

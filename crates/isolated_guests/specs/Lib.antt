@@ -2,4 +2,5 @@ pub mod Spared
 pub mod Short
 pub mod Guests
 pub mod Answered
+pub mod Traces
 pub mod Existence

@@ -6,7 +6,7 @@ use Rattle.tree_model.specs.View.{SystemView}
 use Rattle.tree_model.specs.System.{part_at}
 use Rattle.tree_model.specs.Tree.{is_child, budget_at}
 use Rattle.tree_model.specs.Plans.{IsPlan}
-use Rattle.rtds_sim.specs.Demand.{later}
+use Rattle.rtds_model.specs.Demand.{later}
 use Rattle.isolation.specs.Demand.{no_tie, IsIsolatedBy}
 
 -- the sum of the budgets of core c

@@ -11,10 +11,10 @@ use Rattle.trace_file.specs.Events.{end_of, start_of as start_in}
 use Rattle.trace_file.specs.Periods.{period_of, budget_of, blocked, running}
 use Rattle.release_file.specs.declared.workload.Wake.{Wake}
 use Rattle.release_file.specs.Workload.{start_of, is_blocked_at, IsWorkload}
-use Rattle.rtds_sim.specs.Rtds.{CoreRun}
-use Rattle.rtds_sim.specs.Demand.{later}
-use Rattle.rtds_sim.specs.Giving.{IsStartedOn}
-use Rattle.rtds_sim.specs.Printed.{IsRtdsTrace}
+use Rattle.rtds_model.specs.Rtds.{CoreRun}
+use Rattle.rtds_model.specs.Demand.{later}
+use Rattle.rtds_model.specs.Giving.{IsStartedOn}
+use Rattle.rtds_trace.specs.Printed.{IsRtdsTrace}
 use Rattle.isolation.specs.Demand.{no_tie, IsIsolatedBy}
 use Rattle.isolation.specs.Open.{OpenRun}
 use Rattle.isolation.specs.InTrace.{IsRunLength}

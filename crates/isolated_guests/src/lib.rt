@@ -10,6 +10,7 @@ ghost use Rattle.isolated_guests.specs.Spared.{
 ghost use Rattle.isolated_guests.specs.Short.{IsolatedWhereShort, FewerIsolate};
 ghost use Rattle.isolated_guests.specs.Guests.{ShortKeep};
 ghost use Rattle.isolated_guests.specs.Answered.{LinesKeep, YesKeeps};
+ghost use Rattle.isolated_guests.specs.Traces.{KeepsInTraces};
 
 /// From a VCPU that is isolated no more is stolen, in any of its periods, than the period has
 /// beyond its budget, however often it blocks in the period, and whatever the others do.
@@ -33,4 +34,10 @@ pub fn keeps_deadlines()
     ensures lines { LinesKeep }
     ensures yes { YesKeeps }
     ensures short { ShortKeep }
+{}
+
+/// A leaf that passes its test under its budget keeps its deadlines in each trace in which little
+/// is stolen from it, whatever scheduler made it, where it halts only where it has nothing to do.
+pub fn keeps_in_traces()
+    ensures keeps { KeepsInTraces }
 {}
