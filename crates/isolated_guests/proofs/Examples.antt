@@ -1,15 +1,13 @@
 -- A worked host: two VCPUs of 1 slot in every 2 on one core, of which the second starts at slot 4,
 -- has a job there that needs 1 slot, and blocks at 6, when the job is done. So what is asked of a
 -- host can be met, and a definition that says otherwise breaks one of these.
-use Rattle.std.proofs.Common.{◌≡◌, ◌≢◌, ℕ, zero, suc, ◌+◌, ◌<◌, ◌≤◌, Bool, true, false, Option, Some, None, List, length, [], ◌∷◌, get_or, refl, sym, subst, arith, lit<, lit≤}
+use Rattle.std.proofs.Common.{◌≡◌, ◌≢◌, ℕ, zero, suc, ◌+◌, ◌<◌, ◌≤◌, Bool, true, false, Option, Some, None, List, length, [], ◌∷◌, refl, sym, subst, arith, lit≤}
 use Rattle.csv_rows.specs.Last.{last_below}
-use Rattle.slot_model.specs.declared.job.Job.{Job}
 use Rattle.slot_model.specs.declared.task.TheConstants.{LIMIT}
 use Rattle.slot_model.specs.declared.sched.Sched.TheVariants.{Edf}
 use Rattle.slot_model.specs.Slots.{sum_below}
-use Rattle.slot_model.specs.Task.{plain_task, job_at}
+use Rattle.slot_model.specs.Task.{plain_task}
 use Rattle.slot_model.specs.Order.{edf_before}
-use Rattle.slot_model.specs.Release.{LegalRelease}
 use Rattle.slot_model.specs.Run.{guest, held, Pending, PermittedRun}
 use Rattle.tree_model.specs.declared.pinned_core.Core.{Core as CoreView}
 use Rattle.tree_model.specs.declared.place.Parent.TheVariants.{Core as on_core}
@@ -21,7 +19,7 @@ use Rattle.trace_file.specs.Rules.{is_vcpu}
 use Rattle.release_file.specs.declared.workload.Wake.{Wake}
 use Rattle.release_file.specs.declared.workload.WakeKind.{WakeKind}
 use Rattle.release_file.specs.declared.workload.WakeKind.TheVariants.{Start, Block}
-use Rattle.release_file.specs.Workload.{row_at, last_row, is_of, may_follow, is_started, start_of, is_blocked_at, IsWorkload}
+use Rattle.release_file.specs.Workload.{row_at, last_row, is_of, may_follow, start_of, is_blocked_at, IsWorkload}
 use Rattle.rtds_model.specs.Rtds.{CoreRun}
 use Rattle.rtds_model.specs.Giving.{IsStartedOn}
 use Rattle.rtds_model.proofs.Runs.{better, choice, chosen, is_run}

@@ -40,7 +40,7 @@ module _ (tie : ℕ → ℕ → ℕ) (sys : SystemView) (budgets more : List ℕ
           arith,
           by.enough,
           sum_below-le (term budgets) (term more) (length sys.parts) (λ u l. cond_rises (is_child sys (Core c) u) _ _
-          (asked-fewer tie v u (part_at sys u).period (budget_at budgets u) (budget_at more u) t (less u l))),
+              (asked-fewer tie v u (part_at sys u).period (budget_at budgets u) (budget_at more u) t (less u l))),
         );
   }
 

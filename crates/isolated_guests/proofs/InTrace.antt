@@ -1,5 +1,5 @@
 -- A VCPU that is isolated is spared in traces, too.
-use Rattle.std.proofs.Common.{◌≡◌, ℕ, suc, min, ◌+◌, ◌*◌, ◌/◌, ◌<◌, ◌≤◌, Bool, true, not, ◌&&◌, List, length, Option, Some, sym, ◌∙◌, ap, arith, subst}
+use Rattle.std.proofs.Common.{◌≡◌, ℕ, suc, min, ◌*◌, ◌/◌, ◌<◌, ◌≤◌, Bool, true, not, ◌&&◌, List, length, Option, Some, sym, ◌∙◌, ap, arith, subst}
 use Rattle.slot_model.specs.declared.task.TheConstants.{LIMIT}
 use Rattle.tree_model.specs.declared.place.Parent.{Parent}
 use Rattle.tree_model.specs.declared.place.Place.TheVariants.{Core}
@@ -9,7 +9,7 @@ use Rattle.tree_model.specs.Tree.{is_child, run_at}
 use Rattle.tree_model.specs.Plans.{IsPlan}
 use Rattle.trace_file.specs.declared.event.Event.{Event}
 use Rattle.trace_file.specs.Events.{start_of as start_in, end_of, has_core_at}
-use Rattle.trace_file.specs.Periods.{period_of, budget_of, blocked, running, begins, count_between}
+use Rattle.trace_file.specs.Periods.{period_of, blocked, running, begins, count_between}
 use Rattle.trace_file.proofs.Moments.{child_parent}
 use Rattle.release_file.specs.declared.workload.Wake.{Wake}
 use Rattle.release_file.specs.Workload.{start_of, is_blocked_at, IsWorkload}

@@ -1,5 +1,5 @@
 -- What is spared and passes its test keeps its deadlines where it halts.
-use Rattle.std.proofs.Common.{◌≡◌, ℕ, ◌<◌, true, false, List, length, Option, arith, subst}
+use Rattle.std.proofs.Common.{◌≡◌, ℕ, ◌<◌, true, false, List, length, Option}
 use Rattle.slot_model.specs.declared.job.Job.{Job}
 use Rattle.slot_model.specs.Order.{before_of}
 use Rattle.slot_model.specs.Run.{guest, server}
@@ -22,7 +22,7 @@ use Rattle.isolation.specs.Answers.{own_core}
 use Rattle.halting.specs.Halting.{IsAdmittedRun}
 use Rattle.halting.proofs.Halting.{runs_as_admitted, keeps_deadlines}
 use Rattle.isolated_guests.specs.Spared.{RunKind, has_slot, IsSpared, IsSparedInRuns}
-use Rattle.isolated_guests.specs.Guests.{HaltingGuest, HaltingServers, LeafKeeps, InnerKeeps, IsPartOfRun, PartKeeps, HaltingHost, HostKeeps, HostsKeep, ShortKeep}
+use Rattle.isolated_guests.specs.Guests.{HaltingGuest, HaltingServers, LeafKeeps, InnerKeeps, IsPartOfRun, PartKeeps, HostsKeep, ShortKeep}
 use Rattle.isolated_guests.proofs.Spared.{core_within, file_order_is_open, spared_openly}
 use Rattle.isolated_guests.proofs.Short.{isolated_where_short}
 
@@ -90,7 +90,7 @@ pub hosts_keep : (sys : SystemView) (budgets : List ℕ) → IsSystem sys
     → HostsKeep sys budgets
 hosts_keep sys budgets system each rows n runs own_runs jobs host =
     let in_run : (q : ℕ) (s : IsStartedOn sys rows (own_core sys q) q)
-        → IsPartOfRun OpenRun sys budgets (own_core sys q) q rows n (run_at runs (own_core sys q))
+    → IsPartOfRun OpenRun sys budgets (own_core sys q) q rows n (run_at runs (own_core sys q))
     = λ q s. record {
       is_workload = host.is_workload;
       is_run = host.cores (own_core sys q) (core_within sys system (own_core sys q) q s.is_part s.on_core);

@@ -58,10 +58,10 @@ and_none : (b : Bool) → (b && false) ≡ false
 and_none true = refl
 and_none false = refl
 
-module _ (tie : ℕ → ℕ → ℕ) (m n : ℕ) (period budget start : ℕ → ℕ) (on : ℕ → Bool) (able : ℕ → ℕ → Bool)
-    (run : List (Option ℕ)) (serves : ServesByDeadline tie m n period budget start on able run) where
+module _ {tie : ℕ → ℕ → ℕ} {m n : ℕ} {period budget start : ℕ → ℕ} {on : ℕ → Bool} {able : ℕ → ℕ → Bool}
+    {run : List (Option ℕ)} (serves : ServesByDeadline tie m n period budget start on able run) where
   abbrev pressing : ℕ → ℕ → ℕ → Bool
-  pressing d u x = urgent tie m n period budget start on able run serves d u x
+  pressing d u x = urgent serves d u x
 
   -- v is able and does not have the core
   abbrev pub is_kept_off : ℕ → ℕ → Bool
@@ -75,17 +75,17 @@ module _ (tie : ℕ → ℕ → ℕ) (m n : ℕ) (period budget start : ℕ → 
     | inl q ↦
         omega (
           arith,
-          past_due tie m n period budget start on able run serves (d - tie v u) u a d o (omega arith) l,
+          past_due serves (d - tie v u) u a d o (omega arith) l,
         )
     | inr q ↦
         let e : d - tie v u - a ≡ d - a - tie v u = omega (arith, serves.tie_few v u) in
         subst (λ (z : ℕ). count_between (pressing (d - tie v u) u) a d ≤ demand_of false (period u) (budget u) z) e
         (omega (
           arith,
-          asks tie m n period budget start on able run serves false (d - tie v u) a u o q
-              (head tie m n period budget start on able run serves false (d - tie v u) a u (omega arith) o
+          asks serves false (d - tie v u) a u o q
+              (head serves false (d - tie v u) a u (omega arith) o
               (λ x e q s h. absurd (false≢true q))),
-          past_due tie m n period budget start on able run serves (d - tie v u) u (d - tie v u) d o (omega arith) l,
+          past_due serves (d - tie v u) u (d - tie v u) d o (omega arith) l,
           between_split (pressing (d - tie v u) u) a (d - tie v u) d q (omega arith),
         ))
   ]
@@ -99,7 +99,7 @@ module _ (tie : ℕ → ℕ → ℕ) (m n : ℕ) (period budget start : ℕ → 
     | inr e ↦ e
     | inl e ↦
         absurd (both_ways _ b (serves.is_on x u (omega arith)
-        (urgent_is tie m n period budget start on able run serves (d - tie v u) u x
+        (urgent_is serves (d - tie v u) u x
         (and_parts (not (u == v)) (pressing (d - tie v u) u x) e).1).holder))
   ])
 
@@ -133,7 +133,7 @@ module _ (tie : ℕ → ℕ → ℕ) (m n : ℕ) (period budget start : ℕ → 
         (omega (
           arith,
           short,
-          had_at tie m n period budget start on able run serves v k x lo (omega arith),
+          had_at serves v k x lo (omega arith),
           between_split (λ y. holds (held run y) v) r x d lo (omega arith),
         )) in (
           c.0,
@@ -145,14 +145,14 @@ module _ (tie : ℕ → ℕ → ℕ) (m n : ℕ) (period budget start : ℕ → 
                     absurd (both_ways _ (not-true (holds (held run x) v) p.1)
                     (holds-some (held run x) v (subst (λ (z : ℕ). held run x ≡ Some z) (eqb-true c.0 v b) c.1)))
               ])
-              (urgent_from tie m n period budget start on able run serves (d - tie v c.0) c.0 x (record {
+              (urgent_from serves (d - tie v c.0) c.0 x (record {
                 holder = c.1;
                 has_budget = c.2;
                 in_time =
                     omega (
                       arith,
                       c.3,
-                      ends_at tie m n period budget start on able run serves v k x lo (omega arith),
+                      ends_at serves v k x lo (omega arith),
                     );
               })),
         )
@@ -172,7 +172,7 @@ module _ (tie : ℕ → ℕ → ℕ) (m n : ℕ) (period budget start : ℕ → 
               subst (λ (z : ℕ). count_between (pressing (d - tie v u) u) (d - t) d
                   ≤ demand_of false (period u) (budget u) (z - tie v u)) rest
                   (press_few d v (d - t) u in_run
-                  (omega (arith, some_period tie m n period budget start on able run serves v o)) (omega arith) b),
+                  (omega (arith, some_period serves v o)) (omega arith) b),
               of_another tie v u (period u) (budget u) t e,
               cond-true {A = ℕ} (stands u) (asked_of tie v u (period u) (budget u) t) 0 (on_stands u b),
             )

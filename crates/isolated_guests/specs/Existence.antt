@@ -1,5 +1,5 @@
 -- That hosts exist whose leaves are blocked just where they have nothing to do.
-use Rattle.std.specs.Prelude.{◌≡◌, ℕ, ◌+◌, ◌<◌, ◌≤◌, true, false, List, length, Option}
+use Rattle.std.specs.Prelude.{◌≡◌, ℕ, ◌+◌, ◌<◌, ◌≤◌, true, false, List, Option}
 use Rattle.slot_model.specs.declared.job.Job.{Job}
 use Rattle.slot_model.specs.declared.task.TheConstants.{LIMIT}
 use Rattle.slot_model.specs.Release.{LegalRelease, start_at}

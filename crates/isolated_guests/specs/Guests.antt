@@ -14,7 +14,6 @@ use Rattle.tree_model.specs.Admission.{Admitted}
 use Rattle.release_file.specs.declared.workload.Wake.{Wake}
 use Rattle.release_file.specs.Workload.{start_of, is_blocked_at, IsWorkload}
 use Rattle.rtds_model.specs.Giving.{IsStartedOn}
-use Rattle.isolation.specs.Demand.{no_tie, IsIsolatedBy}
 use Rattle.isolation.specs.Open.{OpenRun}
 use Rattle.isolation.specs.Answers.{own_core}
 use Rattle.halting.specs.Halting.{HaltingRun, NoneLost, HasWorkWithin}

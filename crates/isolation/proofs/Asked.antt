@@ -1,9 +1,9 @@
 -- What is asked of the last slots of a period, beside what is counted in a window.
 use Rattle.std.proofs.Common.{◌≡◌, ℕ, max, ◌==◌, ◌-◌, ◌≤◌, true, false, refl, sym, ◌∙◌, arith, inl, inr, eq-eqb, eqb-true}
 use Rattle.std.proofs.lemmas.Bool.{cases_Bool, cond-true, cond-false}
-use Rattle.rtds_sim.specs.Demand.{deferrable_demand}
+use Rattle.rtds_model.specs.Demand.{deferrable_demand}
 use Rattle.isolation.specs.Demand.{asked_of}
-use Rattle.rtds_sim.proofs.Demands.{last_demand, own_last, demand_rises}
+use Rattle.rtds_model.proofs.Demands.{last_demand, own_last, demand_rises}
 
 -- what is asked for v, and for another
 pub of_itself : (tie : ℕ → ℕ → ℕ) (v u P B t : ℕ) → (u == v) ≡ true → asked_of tie v u P B t ≡ B

@@ -24,13 +24,13 @@ use Rattle.release_file.specs.declared.workload.Wake.{Wake as Row}
 use Rattle.release_file.specs.declared.workload.WakeKind.{WakeKind}
 use Rattle.release_file.specs.declared.workload.WakeKind.TheVariants.{Start, Wake, Block}
 use Rattle.release_file.specs.Workload.{row_at, last_row, is_of, is_start, starts, is_by, is_block, blocks, slot_of, is_started, is_blocked_at, start_of, may_follow, IsWorkload}
-use Rattle.rtds_sim.specs.Giving.{IsStartedOn}
+use Rattle.rtds_model.specs.Giving.{IsStartedOn}
 use Rattle.rtds_queues.proofs.Membership.{IsPlace, is_place}
 use Rattle.csv_rows.proofs.Last.{last_is, none_below}
-use Rattle.rtds_sim.specs.Demand.{later}
+use Rattle.rtds_model.specs.Demand.{later}
 use Rattle.isolation.specs.Keeping.{PeriodsUpTo}
-use Rattle.rtds_sim.proofs.Demands.{quotient_is}
-use Rattle.rtds_sim.proofs.Windows.{later_itself}
+use Rattle.rtds_model.proofs.Demands.{quotient_is}
+use Rattle.rtds_model.proofs.Windows.{later_itself}
 use Rattle.isolation.proofs.Short.{WakesWith, IsWitness}
 
 and_no : (b : Bool) → (b && false) ≡ false

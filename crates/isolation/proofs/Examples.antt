@@ -15,10 +15,10 @@ use Rattle.release_file.specs.declared.workload.Wake.{Wake}
 use Rattle.release_file.specs.declared.workload.WakeKind.{WakeKind}
 use Rattle.release_file.specs.declared.workload.WakeKind.TheVariants.{Start, Wake as ToWake, Block}
 use Rattle.release_file.specs.Workload.{start_of, is_blocked_at, IsWorkload}
-use Rattle.rtds_sim.specs.Rtds.{CoreRun, deadline_at, is_eligible, level_at}
-use Rattle.rtds_sim.specs.Printed.{IsRtdsTrace}
-use Rattle.rtds_sim.proofs.Runs.{better, choice, chosen, is_run}
-use Rattle.rtds_sim.specs.Demand.{deferrable_demand, later}
+use Rattle.rtds_model.specs.Rtds.{CoreRun, deadline_at, is_eligible, level_at}
+use Rattle.rtds_trace.specs.Printed.{IsRtdsTrace}
+use Rattle.rtds_model.proofs.Runs.{better, choice, chosen, is_run}
+use Rattle.rtds_model.specs.Demand.{deferrable_demand, later}
 use Rattle.isolation.specs.Demand.{no_tie, asked, IsIsolatedBy}
 use Rattle.isolation.specs.inner.Whole.{whole_asked}
 use Rattle.isolation.specs.Open.{goes_sooner, OpenEntry, OpenRun}
@@ -35,7 +35,7 @@ use Rattle.trace_file.specs.Periods.{blocked, budget_of, got_in as got_in_trace,
 use Rattle.tree_model.specs.Tree.{budget_at, is_child}
 use Rattle.tree_model.specs.System.{part_at}
 use Rattle.tree_model.specs.declared.place.Place.TheVariants.{Core}
-use Rattle.rtds_sim.specs.Giving.{ServersFit}
+use Rattle.rtds_model.specs.Giving.{ServersFit}
 
 abbrev server : Parent → ℕ → ℕ → Bool → PartView
 server parent period budget extra =

@@ -10,15 +10,16 @@ use Rattle.tree_model.specs.Tree.{is_child, place_of, same_place, run_at}
 use Rattle.tree_model.specs.Plans.{IsPlan}
 use Rattle.trace_file.specs.Periods.{begins}
 use Rattle.release_file.specs.Workload.{start_of}
-use Rattle.rtds_sim.specs.Giving.{ServersFit}
-use Rattle.rtds_sim.proofs.Runs.{rtds_run, rtds_run-is}
+use Rattle.rtds_model.specs.Giving.{ServersFit}
+use Rattle.rtds_model.proofs.Runs.{rtds_run, rtds_run-is}
 use Rattle.isolation.specs.declared.isolation.Isolation.{Isolation}
 use Rattle.isolation.specs.declared.isolation.Isolation.TheVariants.{Isolated, ByTies, ByBlock}
-use Rattle.rtds_sim.specs.Demand.{later}
+use Rattle.rtds_model.specs.Demand.{later}
 use Rattle.isolation.specs.Demand.{AsksTooMuch}
 use Rattle.isolation.specs.Keeping.{IsExposed}
 use Rattle.isolation.specs.Answer.{IsIsolation, Means, MeansInTrace}
 use Rattle.isolation.proofs.Least.{in_file_order}
+use Rattle.rtds_model.proofs.Setting.{setting}
 use Rattle.isolation.proofs.Isolated.{keeps, keeps_openly}
 use Rattle.isolation.proofs.Short.{IsWitness, short_period}
 use Rattle.isolation.proofs.Breaking.{r, rows, is_workload, is_witness}
@@ -59,7 +60,8 @@ exposed sys is_sys budgets plan c v lv cv too_much longest fit up_to in_limit =
         (rtds_run-is sys budgets all_rows slots).cores c (core_of_child sys is_sys c v lv cv),
       );
       short =
-          λ run is. short_period sys budgets plan all_rows workload slots c run is v from fit (omega arith) w too_much;
+          λ run is. short_period (setting sys budgets plan all_rows workload slots c run) is v from fit (omega arith) w
+          too_much;
     }
 
 pub means : (sys : SystemView) → IsSystem sys → (budgets : List ℕ) → IsPlan sys budgets → (c v : ℕ)

@@ -14,12 +14,12 @@ use Rattle.trace_file.specs.Periods.{period_of, budget_of, blocked, begins, coun
 use Rattle.trace_file.proofs.Counting.{between_none, between_alike_to}
 use Rattle.release_file.specs.declared.workload.Wake.{Wake}
 use Rattle.release_file.specs.Workload.{start_of, is_blocked_at, IsWorkload}
-use Rattle.rtds_sim.specs.Rtds.{RtdsRun}
-use Rattle.rtds_sim.specs.Printed.{core_of, printed}
-use Rattle.rtds_sim.specs.Giving.{ServersFit}
+use Rattle.rtds_model.specs.Rtds.{RtdsRun}
+use Rattle.rtds_trace.specs.Printed.{core_of, printed}
+use Rattle.rtds_model.specs.Giving.{ServersFit}
 use Rattle.trace_file.proofs.Moments.{child_parent}
-use Rattle.rtds_sim.proofs.Runs.{rtds_run, rtds_run-is}
-use Rattle.rtds_sim.proofs.Traced.{end_is, blocked_is, StartedAt, started_at, trace_starts, begins_is, got_whole}
+use Rattle.rtds_model.proofs.Runs.{rtds_run, rtds_run-is}
+use Rattle.rtds_trace.proofs.Traced.{end_is, blocked_is, StartedAt, started_at, trace_starts, begins_is, got_whole}
 use Rattle.isolation.specs.Keeping.{IsAwakeLast, got_in, KeepsBudget, IsBreakable, IsExposed}
 use Rattle.isolation.specs.InTrace.{IsAwakeInTrace, KeepsInTrace, CanBeShort, IsExposedInTrace}
 

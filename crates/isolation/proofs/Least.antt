@@ -8,9 +8,9 @@ use Rattle.tree_model.specs.View.{SystemView}
 use Rattle.tree_model.specs.System.{part_at}
 use Rattle.tree_model.specs.Tree.{is_child, budget_at}
 use Rattle.tree_model.specs.Plans.{IsPlan}
-use Rattle.rtds_sim.specs.Demand.{deferrable_demand, later}
+use Rattle.rtds_model.specs.Demand.{deferrable_demand, later}
 use Rattle.isolation.specs.Demand.{no_tie, asked_of, asked, IsIsolatedBy, IsLeastBy, AsksTooMuch}
-use Rattle.rtds_sim.proofs.Demands.{demand_rises}
+use Rattle.rtds_model.proofs.Demands.{demand_rises}
 use Rattle.isolation.specs.inner.Neighbours.{IsNextOn}
 use Rattle.isolation.proofs.Asked.{asked-own}
 use Rattle.isolation.proofs.Neighbouring.{sum_next}

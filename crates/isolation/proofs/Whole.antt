@@ -11,8 +11,8 @@ use Rattle.tree_model.specs.View.{SystemView}
 use Rattle.tree_model.specs.System.{part_at}
 use Rattle.tree_model.specs.Tree.{is_child, budget_at}
 use Rattle.tree_model.specs.Plans.{IsPlan}
-use Rattle.rtds_sim.specs.Demand.{deferrable_demand}
-use Rattle.rtds_sim.proofs.Demands.{quotient_is}
+use Rattle.rtds_model.specs.Demand.{deferrable_demand}
+use Rattle.rtds_model.proofs.Demands.{quotient_is}
 use Rattle.isolation.specs.Demand.{asked_of, asked}
 use Rattle.isolation.specs.inner.Neighbours.{IsNextOn}
 use Rattle.isolation.specs.declared.ties.Ties.{Ties}

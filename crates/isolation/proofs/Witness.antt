@@ -12,39 +12,27 @@ use Rattle.slot_model.proofs.Sums.{sum_below-le, sum_below-lt}
 use Rattle.slot_model.proofs.Runs.{search_below, back_to, holds-is}
 use Rattle.slot_model.proofs.FirstRuns.{none_some}
 use Rattle.trace_file.proofs.Counting.{between_none}
-use Rattle.rtds_sim.specs.Demand.{deferrable_demand, later}
-use Rattle.rtds_sim.proofs.Counts.{LastOf, last_of, few_counted, between_split, between_zero, between_le, all_counted}
-use Rattle.rtds_sim.proofs.Demands.{steady_demand, demand_of, last_demand, quotient_is, demand_rises, own}
-use Rattle.rtds_sim.proofs.Windows.{had, ends, later_in_turn, later_few, ServesByDeadline, urgent, urgent_of, IsUrgent, urgent_is, urgent_from, some_period, had_at, ends_at, past_due, Quiet, head, asks, lacks, got}
+use Rattle.rtds_model.specs.Demand.{deferrable_demand, later}
+use Rattle.rtds_model.proofs.Counts.{LastOf, last_of, few_counted, between_split, between_zero, between_le, all_counted}
+use Rattle.rtds_model.proofs.Demands.{steady_demand, demand_of, last_demand, quotient_is, demand_rises, own}
+use Rattle.rtds_model.proofs.Windows.{had, ends, later_in_turn, later_few, ServesByDeadline, urgent, urgent_of, IsUrgent, urgent_is, urgent_from, some_period, had_at, ends_at, past_due, Quiet, head, asks, lacks, got}
 
-module _ (m n : ℕ) (period budget start : ℕ → ℕ) (on : ℕ → Bool) (able : ℕ → ℕ → Bool) (run : List (Option ℕ))
+module _ {m n : ℕ} {period budget start : ℕ → ℕ} {on : ℕ → Bool} {able : ℕ → ℕ → Bool} {run : List (Option ℕ)}
     (serves : ServesByDeadline later m n period budget start on able run) where
-  abbrev got_of : ℕ → ℕ → ℕ → ℕ
-  got_of u r x = got later m n period budget start on able run serves u r x
-
-  abbrev Urgent : ℕ → ℕ → ℕ → Type 0
-  Urgent d u x = IsUrgent later m n period budget start on able run serves d u x
-
-  abbrev urgent_test : ℕ → ℕ → ℕ → Bool
-  urgent_test d u x = urgent later m n period budget start on able run serves d u x
-
-  abbrev urgent_count : ℕ → ℕ → ℕ → ℕ → ℕ
-  urgent_count d u a c = urgent_of later m n period budget start on able run serves d u a c
-
   -- in a window up to c, in periods that end by d, no later
   asks_to : (steady : Bool) (d a c u : ℕ) → c ≤ n → d ≤ c → a ≤ c → on u ≡ true
-      → Quiet later m n period budget start on able run serves steady d a u
-      → urgent_count d u a c ≤ demand_of steady (period u) (budget u) (c - a)
+      → Quiet serves steady d a u
+      → urgent_of serves d u a c ≤ demand_of steady (period u) (budget u) (c - a)
   asks_to steady d a c u l dc al o quiet = elim (cases_lt d a) [
-    | inl q ↦ omega (arith, past_due later m n period budget start on able run serves d u a c o (omega arith) l)
+    | inl q ↦ omega (arith, past_due serves d u a c o (omega arith) l)
     | inr q ↦ omega (
       arith,
-      asks later m n period budget start on able run serves steady d a u o q
-          (head later m n period budget start on able run serves steady d a u (omega arith) o quiet),
-      past_due later m n period budget start on able run serves d u d c o (omega arith) l,
-      between_split (urgent_test d u) a d c q dc,
+      asks serves steady d a u o q
+          (head serves steady d a u (omega arith) o quiet),
+      past_due serves d u d c o (omega arith) l,
+      between_split (urgent serves d u) a d c q dc,
       demand_rises steady (period u) (budget u) (d - a) (c - a)
-          (some_period later m n period budget start on able run serves u o) (omega arith),
+          (some_period serves u o) (omega arith),
     )
   ]
 
@@ -68,7 +56,7 @@ module _ (m n : ℕ) (period budget start : ℕ → ℕ) (on : ℕ → Bool) (ab
       (wakes : (u : ℕ) → IsOther v u → WakesAt r d (d - later v u) u)
       (fits : (t : ℕ) → 1 ≤ t → sum_below (λ u. cond (on u) (steady_demand (period u) (budget u) t) 0) m ≤ t) where
     some_length : 1 ≤ period v
-    some_length = some_period later m n period budget start on able run serves v o
+    some_length = some_period serves v o
 
     -- the moment by which a period must end, both by c and before one of v that ends at d
     abbrev cap : ℕ → ℕ → ℕ
@@ -78,7 +66,7 @@ module _ (m n : ℕ) (period budget start : ℕ → ℕ) (on : ℕ → Bool) (ab
     record SomeOther (c x : ℕ) : Type 0 where
       vcpu : ℕ
       other : vcpu ≢ v
-      urgent_there : Urgent (cap c vcpu) vcpu x
+      urgent_there : IsUrgent serves (cap c vcpu) vcpu x
 
     some_other : (c x : ℕ) → SomeOther c x ⊎ (SomeOther c x → ⊥)
     some_other c x = go (held run x) refl
@@ -87,17 +75,17 @@ module _ (m n : ℕ) (period budget start : ℕ → ℕ) (on : ℕ → Bool) (ab
         go None e = inr (λ w. none_some (held run x) w.vcpu e w.urgent_there.holder)
         go (Some u) e = elim (cases_eq u v) [
           | inl same ↦ inr (λ w. w.other (same_Some w.vcpu u (sym w.urgent_there.holder ∙ e) ∙ same))
-          | inr ne ↦ elim (cases_Bool (urgent_test (cap c u) u x)) [
+          | inr ne ↦ elim (cases_Bool (urgent serves (cap c u) u x)) [
             | inl b ↦
                 inl (record {
                   vcpu = u;
                   other = ne;
-                  urgent_there = urgent_is later m n period budget start on able run serves (cap c u) u x b;
+                  urgent_there = urgent_is serves (cap c u) u x b;
                 })
             | inr b ↦ inr (λ w.
                 let same : w.vcpu ≡ u = same_Some w.vcpu u (sym w.urgent_there.holder ∙ e) in
-                both_ways _ b (subst (λ (z : ℕ). urgent_test (cap c z) z x ≡ true) same
-                (urgent_from later m n period budget start on able run serves (cap c w.vcpu) w.vcpu x
+                both_ways _ b (subst (λ (z : ℕ). urgent serves (cap c z) z x ≡ true) same
+                (urgent_from serves (cap c w.vcpu) w.vcpu x
                 w.urgent_there)))
           ]
         ]
@@ -105,7 +93,7 @@ module _ (m n : ℕ) (period budget start : ℕ → ℕ) (on : ℕ → Bool) (ab
     -- v's period from r on
     ends_own : (x : ℕ) → r ≤ x → x < d → ends period start v x ≡ d
     ends_own x l h =
-        omega (arith, ends_at later m n period budget start on able run serves v k x (omega arith) (omega arith))
+        omega (arith, ends_at serves v k x (omega arith) (omega arith))
 
     apart : (u : ℕ) → u ≢ v → 1 ≤ later v u + later u v
     apart u ne = elim (cases_lt u v) [
@@ -157,25 +145,25 @@ module _ (m n : ℕ) (period budget start : ℕ → ℕ) (on : ℕ → Bool) (ab
 
     -- what the others had of a window, but v
     abbrev other_test : ℕ → ℕ → ℕ → Bool
-    other_test c u x = not (u == v) && urgent_test (cap c u) u x
+    other_test c u x = not (u == v) && urgent serves (cap c u) u x
 
     -- one that is not on has no slot
     off : (c w x : ℕ) → on w ≡ false → x < n → other_test c w x ≡ false
     off c w x b l = elim (cases_Bool (other_test c w x)) [
       | inr z ↦ z
       | inl z ↦
-          absurd (both_ways _ b (serves.is_on x w l (urgent_is later m n period budget start on able run serves
-          (cap c w) w x (and_parts (not (w == v)) (urgent_test (cap c w) w x) z).1).holder))
+          absurd (both_ways _ b (serves.is_on x w l (urgent_is serves
+          (cap c w) w x (and_parts (not (w == v)) (urgent serves (cap c w) w x) z).1).holder))
     ]
 
     -- a window that is full asks for more than there is where one has not all of a period at its
     -- end
     too_full : (c a u i : ℕ) → r < a → a ≤ c → c ≤ d → IsOther v u → c ≡ begins (period u) (start u) (suc i)
-        → c ≤ d - later v u → a ≤ begins (period u) (start u) i → got_of u (begins (period u) (start u) i) c < budget u
-        →
-        ((x : ℕ) → a ≤ x → x < c → SomeOther c x) → ((x : ℕ) → suc x ≡ a → SomeOther c x → ⊥) → ⊥
+        → c ≤ d - later v u → a ≤ begins (period u) (start u) i
+        → got serves u (begins (period u) (start u) i) c < budget u
+        → ((x : ℕ) → a ≤ x → x < c → SomeOther c x) → ((x : ℕ) → suc x ≡ a → SomeOther c x → ⊥) → ⊥
     too_full c a u i ra al cd ou is_end due lo short each none =
-        let quiet : (w : ℕ) → IsOther v w → Quiet later m n period budget start on able run serves true (cap c w) a w
+        let quiet : (w : ℕ) → IsOther v w → Quiet serves true (cap c w) a w
         = λ w ow x e q s h. elim (cases_lt (had period start run w x) (budget w)) [
           | inr k ↦ k
           | inl k ↦ absurd (none x e (makes_other c x w (omega arith) (omega arith) ow k h))
@@ -187,15 +175,15 @@ module _ (m n : ℕ) (period budget start : ℕ → ℕ) (on : ℕ → Bool) (ab
               omega (
                 arith,
                 between_zero (other_test c w) a c
-                    (λ x xl xh. ap (λ (b : Bool). not b && urgent_test (cap c w) w x) (eq-eqb w v same)),
+                    (λ x xl xh. ap (λ (b : Bool). not b && urgent serves (cap c w) w x) (eq-eqb w v same)),
               )
           | inr wne ↦ elim (cases_Bool (on w)) [
             | inl b ↦
                 let ow : IsOther v w = record { below = wm; other = wne; is_on = b } in
                 omega (
                   arith,
-                  between_le (other_test c w) (urgent_test (cap c w) w) a c
-                      (λ x xl xh e. (and_parts (not (w == v)) (urgent_test (cap c w) w x) e).1),
+                  between_le (other_test c w) (urgent serves (cap c w) w) a c
+                      (λ x xl xh e. (and_parts (not (w == v)) (urgent serves (cap c w) w x) e).1),
                   asks_to true (cap c w) a c w (omega arith) (omega arith) al b (quiet w ow),
                   cond-true {A = ℕ} (on w) (steady_demand (period w) (budget w) (c - a)) 0 b,
                 )
@@ -208,12 +196,12 @@ module _ (m n : ℕ) (period budget start : ℕ → ℕ) (on : ℕ → Bool) (ab
         =
         omega (
           arith,
-          between_le (other_test c u) (urgent_test (cap c u) u) a c
-              (λ x xl xh e. (and_parts (not (u == v)) (urgent_test (cap c u) u x) e).1),
-          ap (λ (z : ℕ). urgent_count z u a c) cap_is,
-          lacks later m n period budget start on able run serves true c a u i ou.is_on is_end lo short
-              (head later m n period budget start on able run serves true c a u (omega arith) ou.is_on
-              (subst (λ (z : ℕ). Quiet later m n period budget start on able run serves true z a u) cap_is
+          between_le (other_test c u) (urgent serves (cap c u) u) a c
+              (λ x xl xh e. (and_parts (not (u == v)) (urgent serves (cap c u) u x) e).1),
+          ap (λ (z : ℕ). urgent_of serves z u a c) cap_is,
+          lacks serves true c a u i ou.is_on is_end lo short
+              (head serves true c a u (omega arith) ou.is_on
+              (subst (λ (z : ℕ). Quiet serves true z a u) cap_is
               (quiet u ou))),
           cond-true {A = ℕ} (on u) (steady_demand (period u) (budget u) (c - a)) 0 ou.is_on,
         )
@@ -223,8 +211,8 @@ module _ (m n : ℕ) (period budget start : ℕ → ℕ) (on : ℕ → Bool) (ab
         let s : SomeOther c x = each x xl xh in (
           s.vcpu,
           serves.of_core x s.vcpu (omega arith) s.urgent_there.holder,
-          and_from (not (s.vcpu == v)) (urgent_test (cap c s.vcpu) s.vcpu x) (not_same s.vcpu s.other)
-              (urgent_from later m n period budget start on able run serves (cap c s.vcpu) s.vcpu x s.urgent_there),
+          and_from (not (s.vcpu == v)) (urgent serves (cap c s.vcpu) s.vcpu x) (not_same s.vcpu s.other)
+              (urgent_from serves (cap c s.vcpu) s.vcpu x s.urgent_there),
         ))
         in
         omega (
@@ -233,7 +221,7 @@ module _ (m n : ℕ) (period budget start : ℕ → ℕ) (on : ℕ → Bool) (ab
           sum_below-lt (λ w. count_between (other_test c w) a c)
               (λ w. cond (on w) (steady_demand (period w) (budget w) (c - a)) 0) u m 1 bound ou.below less,
           fits (c - a)
-              (some_slots lo is_end (some_period later m n period budget start on able run serves u ou.is_on)),
+              (some_slots lo is_end (some_period serves u ou.is_on)),
         )
       where
         not_same : (w : ℕ) → w ≢ v → not (w == v) ≡ true
@@ -245,18 +233,18 @@ module _ (m n : ℕ) (period budget start : ℕ → ℕ) (on : ℕ → Bool) (ab
 
     -- where another has not all of a period at its end, all slots up to there are full
     unfinished_full : (c u i : ℕ) → c ≤ d → IsOther v u → c ≡ begins (period u) (start u) (suc i) → c ≤ d - later v u
-        → got_of u (begins (period u) (start u) i) c < budget u → Full c
+        → got serves u (begins (period u) (start u) i) c < budget u → Full c
     unfinished_full c u i cd ou is_end due short x l h =
         let b : ℕ = begins (period u) (start u) i in
         let here : (y : ℕ) → b ≤ y → r ≤ y → y < c → SomeOther c y = λ y yb yr yc.
         makes_other c y u yr (omega arith) ou
         (omega (
           arith,
-          had_at later m n period budget start on able run serves u i y yb (omega arith),
+          had_at serves u i y yb (omega arith),
           short,
           between_split (λ z. holds (held run z) u) b y c yb (omega arith),
         ))
-        (omega (arith, ends_at later m n period budget start on able run serves u i y yb (omega arith), due))
+        (omega (arith, ends_at serves u i y yb (omega arith), due))
         in
         let w : (a : ℕ) × (a ≤ b) × ((y : ℕ) → a ≤ y → y < b → SomeOther c y)
         × ((y : ℕ) → suc y ≡ a → SomeOther c y → ⊥)
@@ -274,9 +262,10 @@ module _ (m n : ℕ) (period budget start : ℕ → ℕ) (on : ℕ → Bool) (ab
     module _ (c : ℕ) (from : r ≤ c) (to : c ≤ d) (full : Full c) (none : (y : ℕ) → c < y → y ≤ d → Full y → ⊥) where
       finished : (u i : ℕ) → IsOther v u → c < begins (period u) (start u) (suc i)
           → begins (period u) (start u) (suc i) ≤ d - later v u
-          → budget u ≤ got_of u (begins (period u) (start u) i) (begins (period u) (start u) (suc i))
+          → budget u ≤ got serves u (begins (period u) (start u) i) (begins (period u) (start u) (suc i))
       finished u i ou l h =
-          elim (cases_lt (got_of u (begins (period u) (start u) i) (begins (period u) (start u) (suc i))) (budget u)) [
+          let has : ℕ = got serves u (begins (period u) (start u) i) (begins (period u) (start u) (suc i)) in
+          elim (cases_lt has (budget u)) [
             | inr q ↦ q
             | inl q ↦
                 absurd (none (begins (period u) (start u) (suc i)) l (omega arith)
@@ -285,16 +274,16 @@ module _ (m n : ℕ) (period budget start : ℕ → ℕ) (on : ℕ → Bool) (ab
 
       all_finished : (u i q : ℕ) → IsOther v u → c ≤ begins (period u) (start u) i
           → begins (period u) (start u) (i + q) ≤ d - later v u
-          → q * budget u ≤ got_of u (begins (period u) (start u) i) (begins (period u) (start u) (i + q))
+          → q * budget u ≤ got serves u (begins (period u) (start u) i) (begins (period u) (start u) (i + q))
       all_finished u i zero ou l h = omega arith
       all_finished u i (suc q) ou l h =
-          let p : 1 ≤ period u = some_period later m n period budget start on able run serves u ou.is_on in
+          let p : 1 ≤ period u = some_period serves u ou.is_on in
           let e : begins (period u) (start u) (suc (i + q)) ≡ begins (period u) (start u) (i + suc q) = omega arith in
           omega (
             arith,
             all_finished u i q ou l (omega arith),
             finished u (i + q) ou (omega arith) (omega arith),
-            ap (λ (z : ℕ). got_of u (begins (period u) (start u) (i + q)) z) e,
+            ap (λ (z : ℕ). got serves u (begins (period u) (start u) (i + q)) z) e,
             between_split (λ z. holds (held run z) u) (begins (period u) (start u) i)
                 (begins (period u) (start u) (i + q)) (begins (period u) (start u) (i + suc q)) (omega arith)
                 (omega arith),
@@ -302,10 +291,10 @@ module _ (m n : ℕ) (period budget start : ℕ → ℕ) (on : ℕ → Bool) (ab
 
       -- in a period that is under way at c, another has had nothing
       untouched : (u i : ℕ) → IsOther v u → begins (period u) (start u) i ≤ c → c < begins (period u) (start u) (suc i)
-          → got_of u (begins (period u) (start u) i) c ≡ 0
+          → got serves u (begins (period u) (start u) i) c ≡ 0
       untouched u i ou l h =
           let b : ℕ = begins (period u) (start u) i in
-          let behind : (a : ℕ) → r ≤ a → b ≤ a → got_of u a c ≡ 0
+          let behind : (a : ℕ) → r ≤ a → b ≤ a → got serves u a c ≡ 0
           = λ a ra ba. between_zero (λ z. holds (held run z) u) a c
           (λ x xl xh. elim (cases_Bool (holds (held run x) u)) [
             | inr z ↦ z
@@ -315,7 +304,7 @@ module _ (m n : ℕ) (period budget start : ℕ → ℕ) (on : ℕ → Bool) (ab
                 absurd (omega (
                   arith,
                   subst (λ (y : ℕ). ends period start y x ≤ cap c y) same s.urgent_there.in_time,
-                  ends_at later m n period budget start on able run serves u i x (omega arith) (omega arith),
+                  ends_at serves u i x (omega arith) (omega arith),
                 ))
           ]) in
           elim (cases_lt b r) [
@@ -326,16 +315,16 @@ module _ (m n : ℕ) (period budget start : ℕ → ℕ) (on : ℕ → Bool) (ab
                   behind r (omega arith) (omega arith),
                   between_split (λ z. holds (held run z) u) b r c (omega arith) from,
                   (wakes u ou).has_all,
-                  had_at later m n period budget start on able run serves u i r (omega arith) (omega arith),
+                  had_at serves u i r (omega arith) (omega arith),
                 )
           ]
 
-      has_asked : (u : ℕ) → IsOther v u → deferrable_demand (period u) (budget u) (d - c - later v u) ≤ got_of u c d
+      has_asked : (u : ℕ) → IsOther v u → deferrable_demand (period u) (budget u) (d - c - later v u) ≤ got serves u c d
       has_asked u ou =
           let w : WakesAt r d (d - later v u) u = wakes u ou in
           let P : ℕ = period u in
           let B : ℕ = budget u in
-          let p : 1 ≤ P = some_period later m n period budget start on able run serves u w.is_on in
+          let p : 1 ≤ P = some_period serves u w.is_on in
           elim (cases_lt c (d - later v u)) [
             | inr z ↦
                 let nothing : d - c - later v u ≡ 0 = omega arith in
@@ -357,9 +346,9 @@ module _ (m n : ℕ) (period budget start : ℕ → ℕ) (on : ℕ → Bool) (ab
                 ∙ (let e : (i + q) * P ≡ i * P + q * P = omega arith in e) in
                 let at : begins P (start u) i ≡ c + a = omega (arith, w.in_step) in
                 let last : begins P (start u) (i + q) ≡ d - later v u = omega (arith, w.in_step) in
-                let whole : q * B ≤ got_of u (begins P (start u) i) (begins P (start u) (i + q))
+                let whole : q * B ≤ got serves u (begins P (start u) i) (begins P (start u) (i + q))
                 = all_finished u i q ou (omega arith) (omega arith) in
-                let carried : min B a ≤ got_of u c (begins P (start u) i)
+                let carried : min B a ≤ got serves u c (begins P (start u) i)
                 = carry_in u ou i a small at (omega (arith, last)) in
                 omega (
                   arith,
@@ -374,7 +363,7 @@ module _ (m n : ℕ) (period budget start : ℕ → ℕ) (on : ℕ → Bool) (ab
         where
           carry_in : (u : ℕ) → IsOther v u → (i a : ℕ) → a < period u → begins (period u) (start u) i ≡ c + a
               → begins (period u) (start u) i ≤ d - later v u
-              → min (budget u) a ≤ got_of u c (begins (period u) (start u) i)
+              → min (budget u) a ≤ got serves u c (begins (period u) (start u) i)
           carry_in u ou zero a l at h = omega (arith, (wakes u ou).by_then)
           carry_in u ou (suc i) a l at h = elim (cases_eq a 0) [
             | inl z ↦ omega arith
@@ -389,7 +378,7 @@ module _ (m n : ℕ) (period budget start : ℕ → ℕ) (on : ℕ → Bool) (ab
           ]
 
       -- v has none of the slots that are full
-      none_before : got_of v r c ≡ 0
+      none_before : got serves v r c ≡ 0
       none_before = between_zero (λ z. holds (held run z) v) r c (λ x xl xh. elim (cases_Bool (holds (held run x) v)) [
         | inr z ↦ z
         | inl z ↦
@@ -398,15 +387,15 @@ module _ (m n : ℕ) (period budget start : ℕ → ℕ) (on : ℕ → Bool) (ab
       ])
 
       -- so if v has its budget, no more is asked than there is
-      enough_left : budget v ≤ got_of v r d
+      enough_left : budget v ≤ got serves v r d
           → (1 ≤ d - c)
           × (sum_below (λ u. cond (on u) (last_demand later v u (period u) (budget u) (d - c)) 0) m ≤ d - c)
       enough_left h =
-          let all : got_of v r d ≡ got_of v c d
+          let all : got serves v r d ≡ got serves v c d
           = omega (arith, none_before, between_split (λ z. holds (held run z) v) r c d from to) in
           let some : 1 ≤ budget v = serves.some_budget v o in
           let each_on : (u : ℕ) → u < m → on u ≡ true
-          → last_demand later v u (period u) (budget u) (d - c) ≤ got_of u c d
+          → last_demand later v u (period u) (budget u) (d - c) ≤ got serves u c d
           = λ u um b. elim (cases_eq u v) [
             | inr ne ↦
                 omega (
@@ -417,11 +406,11 @@ module _ (m n : ℕ) (period budget start : ℕ → ℕ) (on : ℕ → Bool) (ab
                       (deferrable_demand (period u) (budget u) (d - c - later v u)) (differs u ne),
                 )
             | inl same ↦
-                subst (λ (y : ℕ). last_demand later v y (period y) (budget y) (d - c) ≤ got_of y c d) (sym same)
+                subst (λ (y : ℕ). last_demand later v y (period y) (budget y) (d - c) ≤ got serves y c d) (sym same)
                 (omega (arith, all, h, own_demand (period v) (budget v) (d - c) some_length (omega arith)))
           ] in
           let each : (u : ℕ) → u < m
-          → cond (on u) (last_demand later v u (period u) (budget u) (d - c)) 0 ≤ got_of u c d
+          → cond (on u) (last_demand later v u (period u) (budget u) (d - c)) 0 ≤ got serves u c d
           = λ u um. elim (cases_Bool (on u)) [
             | inr b ↦ omega (arith, cond-false {A = ℕ} (on u) (last_demand later v u (period u) (budget u) (d - c)) 0 b)
             | inl b ↦
@@ -441,7 +430,7 @@ module _ (m n : ℕ) (period budget start : ℕ → ℕ) (on : ℕ → Bool) (ab
               arith,
               few_counted run m c d to,
               sum_below-le (λ u. cond (on u) (last_demand later v u (period u) (budget u) (d - c)) 0)
-                  (λ u. got_of u c d) m each,
+                  (λ u. got serves u c d) m each,
             ),
           )
         where
@@ -460,8 +449,8 @@ module _ (m n : ℕ) (period budget start : ℕ → ℕ) (on : ℕ → Bool) (ab
     -- where too much is asked, v lacks some of its budget
     pub falls_short : ((t : ℕ) → 1 ≤ t → t ≤ period v
         → t < sum_below (λ u. cond (on u) (last_demand later v u (period u) (budget u) t) 0) m)
-        → got_of v r d < budget v
-    falls_short too_much = elim (cases_lt (got_of v r d) (budget v)) [
+        → got serves v r d < budget v
+    falls_short too_much = elim (cases_lt (got serves v r d) (budget v)) [
       | inl h ↦ h
       | inr h ↦
           let w : LastOf Full r d = last_of Full is_full r d (omega arith) (λ x l k. absurd (omega arith)) in

@@ -3,7 +3,7 @@ use Rattle.std.specs.Prelude.{ℕ, List}
 use Rattle.tree_model.specs.View.{SystemView}
 use Rattle.isolation.specs.declared.isolation.Isolation.{Isolation}
 use Rattle.isolation.specs.declared.isolation.Isolation.TheVariants.{Isolated, ByTies, ByBlock}
-use Rattle.rtds_sim.specs.Demand.{later}
+use Rattle.rtds_model.specs.Demand.{later}
 use Rattle.isolation.specs.Demand.{no_tie, IsLeastBy, AsksTooMuch}
 use Rattle.isolation.specs.Keeping.{KeepsBudget, KeepsOpenly, IsExposed}
 use Rattle.isolation.specs.InTrace.{KeepsInTrace, IsExposedInTrace}

@@ -5,7 +5,7 @@ use Rattle.slot_model.specs.Slots.{places_where}
 use Rattle.tree_model.specs.View.{SystemView}
 use Rattle.tree_model.specs.System.{part_at}
 use Rattle.trace_file.specs.Rules.{is_vcpu}
-use Rattle.rtds_sim.specs.Printed.{core_of}
+use Rattle.rtds_trace.specs.Printed.{core_of}
 use Rattle.isolation.specs.declared.isolation.Isolation.{Isolation}
 use Rattle.isolation.specs.declared.isolation.Isolation.TheVariants.{Isolated}
 use Rattle.isolation.specs.declared.vcpus.PartIsolation.{PartIsolation}

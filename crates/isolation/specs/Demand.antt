@@ -1,6 +1,6 @@
 -- What the VCPUs of a core may take of the last slots of a period of one of them.
 use Rattle.std.specs.Prelude.{ℕ, ◌-◌, ◌<◌, ◌≤◌, ◌==◌, if◌then◌else◌, List, length}
-use Rattle.rtds_sim.specs.Demand.{deferrable_demand}
+use Rattle.rtds_model.specs.Demand.{deferrable_demand}
 use Rattle.slot_model.specs.Slots.{sum_below}
 use Rattle.tree_model.specs.declared.place.Place.TheVariants.{Core}
 use Rattle.tree_model.specs.View.{SystemView}

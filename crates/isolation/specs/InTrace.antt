@@ -7,7 +7,7 @@ use Rattle.trace_file.specs.Events.{start_of, end_of}
 use Rattle.trace_file.specs.Periods.{period_of, budget_of, blocked, begins, got_in, IsShort}
 use Rattle.release_file.specs.declared.workload.Wake.{Wake}
 use Rattle.release_file.specs.Workload.{IsWorkload}
-use Rattle.rtds_sim.specs.Printed.{IsRtdsTrace}
+use Rattle.rtds_trace.specs.Printed.{IsRtdsTrace}
 use Rattle.isolation.specs.Keeping.{PeriodsUpTo}
 
 -- for how many slots a workload may be run

@@ -9,8 +9,8 @@ use Rattle.tree_model.specs.Tree.{is_child, budget_at}
 use Rattle.trace_file.specs.Periods.{begins}
 use Rattle.release_file.specs.declared.workload.Wake.{Wake}
 use Rattle.release_file.specs.Workload.{start_of, is_blocked_at, IsWorkload}
-use Rattle.rtds_sim.specs.Rtds.{CoreRun}
-use Rattle.rtds_sim.specs.Giving.{IsStartedOn, ServersFit, slots_got}
+use Rattle.rtds_model.specs.Rtds.{CoreRun}
+use Rattle.rtds_model.specs.Giving.{IsStartedOn, ServersFit, slots_got}
 use Rattle.isolation.specs.Open.{OpenRun}
 
 -- VCPU v of core c is not blocked in the last t slots of its period k, which ends within n slots

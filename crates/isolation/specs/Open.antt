@@ -3,7 +3,7 @@ use Rattle.std.specs.Prelude.{◌≡◌, ℕ, ◌<◌, ◌==◌, Bool, true, fal
 use Rattle.slot_model.specs.Run.{held}
 use Rattle.tree_model.specs.View.{SystemView}
 use Rattle.release_file.specs.declared.workload.Wake.{Wake}
-use Rattle.rtds_sim.specs.Rtds.{is_eligible, level_at, deadline_at}
+use Rattle.rtds_model.specs.Rtds.{is_eligible, level_at, deadline_at}
 
 -- whether the first goes before the second, whatever their places in the file
 abbrev pub goes_sooner : ℕ → ℕ → ℕ → ℕ → ℕ → ℕ → Bool

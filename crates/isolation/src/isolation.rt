@@ -3,7 +3,7 @@ ghost use Rattle.tree_model.specs.declared.place.Place.TheVariants.{Core};
 ghost use Rattle.tree_model.specs.Plans.{IsPlan};
 ghost use Rattle.tree_model.specs.System.{IsSystem};
 ghost use Rattle.tree_model.specs.Tree.{is_child};
-ghost use Rattle.rtds_sim.specs.Giving.{ServersFit};
+ghost use Rattle.rtds_model.specs.Giving.{ServersFit};
 ghost use Rattle.isolation.specs.Answer.{IsIsolation, Means, MeansInTrace};
 ghost use Rattle.isolation.specs.Answers.{is_isolated};
 ghost use Rattle.isolation.specs.inner.Neighbours.{AreNeighbours};

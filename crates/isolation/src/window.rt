@@ -4,7 +4,7 @@ ghost use Rattle.tree_model.specs.declared.place.Place.TheVariants.{Core};
 ghost use Rattle.tree_model.specs.Plans.{IsPlan};
 ghost use Rattle.tree_model.specs.System.{IsSystem, part_at};
 ghost use Rattle.tree_model.specs.Tree.{is_child, budget_at};
-ghost use Rattle.rtds_sim.specs.Demand.{deferrable_demand};
+ghost use Rattle.rtds_model.specs.Demand.{deferrable_demand};
 ghost use Rattle.isolation.specs.Demand.{asked_of, asked, IsLeastBy, AsksTooMuch};
 ghost use Rattle.isolation.specs.inner.Ties.{tie_of};
 ghost use Rattle.isolation.specs.inner.Neighbours.{AreNeighbours};

@@ -11,14 +11,14 @@ use Rattle.rtds_queues.specs.declared.account.Account.{Account}
 use Rattle.rtds_queues.specs.Accounts.{account_at, renewed, using, had_budget}
 use Rattle.rtds_queues.specs.Vcpus.{IsChoice, NoEndBefore}
 use Rattle.rtds_sim.specs.declared.host_core.HostCore.{HostCore}
-use Rattle.rtds_sim.specs.inner.Accounts.{part_of, InTurn, gone_on, HasNumbers, IsAccount, AreOn, AreBefore}
-use Rattle.rtds_sim.specs.Printed.{push_some, holder_before, holder_left, on_core_at, switch_to, switch_on}
+use Rattle.rtds_sim.specs.inner.Accounts.{part_of, InTurn, gone_on, HasNumbers, IsAccount, AreOn}
+use Rattle.rtds_trace.specs.Printed.{AreBefore, push_some, holder_before, holder_left, on_core_at, switch_to, switch_on}
 use Rattle.rtds_sim.specs.inner.Running.{IsUnderway, HasRun}
 use Rattle.rtds_sim.specs.inner.Telling.{told_on}
 use Rattle.rtds_sim.proofs.Entering.{choice_entry}
-use Rattle.rtds_sim.proofs.Gathered.{gathered-zero}
+use Rattle.rtds_trace.proofs.Gathered.{gathered-zero}
 use Rattle.rtds_sim.proofs.Members.{by_part, by_part_at, each_part, holds_part, held_part, part_of_same, SameNumbers, of_same, choice_by}
-use Rattle.rtds_sim.proofs.Runs.{entry_unique}
+use Rattle.rtds_model.proofs.Runs.{entry_unique}
 use Rattle.rtds_sim.proofs.Steady.{IsNext, taken_by, alike, gone_accounts}
 use Rattle.rtds_sim.proofs.Telling.{told_more}
 use Rattle.rtds_sim.proofs.Visits.{left_before, switch_quiet}

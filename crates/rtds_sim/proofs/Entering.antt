@@ -1,7 +1,6 @@
 -- What the accounts say at a slot whose rows are taken: who is eligible, and who goes first.
 use Rattle.std.proofs.Common.{◌≡◌, ◌==◌, ℕ, suc, ◌*◌, ◌/◌, ◌<◌, ◌≤◌, nat_lt, Bool, true, not, ◌&&◌, ◌||◌, List, length, Option, sym, ◌∙◌, ap, arith, inl, inr, eq-eqb, ltb-true, lt-ltb, le-ltb}
 use Rattle.std.proofs.Math.Nat.{div-eq_of_lt}
-use Rattle.std.specs.Prelude.{is_some}
 use Rattle.std.proofs.lemmas.Bool.{cases_Bool, cases_lt, both_ways, and_parts, ne_eqb}
 use Rattle.tree_model.specs.declared.place.Place.TheVariants.{Core}
 use Rattle.tree_model.specs.View.{SystemView}
@@ -10,29 +9,14 @@ use Rattle.tree_model.specs.Tree.{is_child, budget_at}
 use Rattle.tree_model.specs.Plans.{IsPlan}
 use Rattle.rtds_queues.specs.declared.account.Account.{Account}
 use Rattle.release_file.specs.declared.workload.Wake.{Wake as Row}
-use Rattle.release_file.specs.Workload.{row_at, last_row, is_by, is_of, starts, blocks, started_after, blocked_after, is_started_at, is_blocked_at}
-use Rattle.rtds_sim.specs.Rtds.{used, level_at, deadline_at, can_run, is_eligible, goes_before, RtdsEntry}
+use Rattle.release_file.specs.Workload.{is_started_at, is_blocked_at}
+use Rattle.rtds_model.specs.Rtds.{used, level_at, deadline_at, can_run, is_eligible, goes_before, RtdsEntry}
 use Rattle.rtds_queues.specs.Keys.{goes_first}
 use Rattle.rtds_queues.specs.Accounts.{account_eligible, goes_ahead}
-use Rattle.rtds_sim.specs.inner.Accounts.{HasNumbers, IsInPeriod, IsAccount, AreBefore}
+use Rattle.rtds_sim.specs.inner.Accounts.{HasNumbers, IsInPeriod, IsAccount}
+use Rattle.rtds_trace.specs.Printed.{AreBefore}
 use Rattle.rtds_sim.proofs.Members.{IsChoiceBy}
-use Rattle.csv_rows.proofs.Last.{last_by_moment}
-
--- the last row among those at or before x is the last of the first k, where those are the rows at
--- or before x
-pub by_slot : (p : Row → Bool) (rows : List Row) (x k : ℕ) → AreBefore rows k (suc x)
-    → last_row (λ r. is_by x r && p r) rows (length rows) ≡ last_row p rows k
-by_slot p rows x k h =
-    last_by_moment (λ r. r.at) p (row_at rows) x k (length rows) h.in_rows (λ i l. omega (arith, h.past i l))
-    (λ i a b. omega (arith, h.to_come i a b))
-
-pub started_by : (rows : List Row) (v x k : ℕ) → AreBefore rows k (suc x)
-    → is_started_at rows v x ≡ started_after rows k v
-started_by rows v x k h = ap is_some (by_slot (starts v) rows x k h)
-
-pub blocked_by : (rows : List Row) (v x k : ℕ) → AreBefore rows k (suc x)
-    → is_blocked_at rows v x ≡ blocked_after rows k v
-blocked_by rows v x k h = ap blocks (by_slot (is_of v) rows x k h)
+use Rattle.rtds_trace.proofs.Rows.{started_by, blocked_by}
 
 -- a VCPU has budget left where it has not had it once
 pub none_had : (slots budget : ℕ) → 1 ≤ budget → nat_lt slots budget ≡ ((slots / budget) == 0)

@@ -5,11 +5,11 @@ use Rattle.std.proofs.lemmas.Bool.{cases_eq, cases_lt, cond-true, cond-false, lt
 use Rattle.std.proofs.lemmas.Option.{same_Some}
 use Rattle.trace_file.specs.declared.event.Event.{Event}
 use Rattle.trace_file.specs.Taker.{Took}
-use Rattle.rtds_sim.specs.Printed.{push_some, gathered, moment_of_slot}
+use Rattle.rtds_trace.specs.Printed.{push_some, gathered, moment_of_slot}
 use Rattle.rtds_sim.specs.inner.Lists.{list_at}
 use Rattle.rtds_sim.specs.inner.Telling.{told_on, told_by, AreAtSlots, AreTold}
 use Rattle.rtds_sim.specs.inner.Soonest.{next_moment, AreNever, IsSoonest}
-use Rattle.rtds_sim.proofs.Gathered.{gathered-zero, gathered-suc, gathered-rest, gathered-none, took_nothing, took_same, took_more}
+use Rattle.rtds_trace.proofs.Gathered.{gathered-zero, gathered-suc, gathered-rest, gathered-none, took_nothing, took_same, took_more}
 use Rattle.rtds_sim.proofs.Nexts.{HasNext, moment_next, next_at, count_more, moment_at, none_before, none_ever, next_here}
 
 pub told_by-zero : (f : ℕ → ℕ → Option Event) (x n : ℕ) → told_by f x n 0 ≡ []

@@ -6,10 +6,10 @@ use Rattle.std.proofs.lemmas.List.{length_push}
 use Rattle.std.proofs.lemmas.Option.{slice_get_past}
 use Rattle.trace_file.specs.declared.event.Event.{Event}
 use Rattle.rtds_sim.specs.declared.switches.TheConstants.{NEVER}
-use Rattle.rtds_sim.specs.Printed.{push_some, gathered, moment_of_slot}
+use Rattle.rtds_trace.specs.Printed.{push_some, gathered, moment_of_slot}
 use Rattle.rtds_sim.specs.inner.Telling.{AreAtSlots}
 use Rattle.rtds_sim.specs.inner.Soonest.{moment_of, next_moment}
-use Rattle.rtds_sim.proofs.Gathered.{gathered-suc, gathered-rest, push_behind}
+use Rattle.rtds_trace.proofs.Gathered.{gathered-suc, gathered-rest, push_behind}
 
 -- what is gathered first, and then what is gathered from i on
 pub gathered-split : {X : Type 0} (g : ℕ → Option X) (i r : ℕ)

@@ -9,7 +9,8 @@ use Rattle.release_file.specs.declared.workload.Wake.{Wake as Row}
 use Rattle.release_file.specs.Workload.{row_at, IsWorkload}
 use Rattle.release_file.proofs.Rows.{ordered}
 use Rattle.rtds_sim.specs.declared.host.Host.{Host}
-use Rattle.rtds_sim.specs.inner.Accounts.{new_core, core_at, holder_of, AreOn, AreBefore}
+use Rattle.rtds_sim.specs.inner.Accounts.{new_core, core_at, holder_of, AreOn}
+use Rattle.rtds_trace.specs.Printed.{AreBefore}
 use Rattle.rtds_sim.specs.inner.Running.{RowsFrom, Stands}
 use Rattle.rtds_sim.proofs.Members.{fresh_on}
 

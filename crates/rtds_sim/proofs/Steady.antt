@@ -5,11 +5,9 @@ use Rattle.std.proofs.Math.Nat.{div-eq_of_lt, zero-div}
 use Rattle.std.proofs.lemmas.Bool.{cases_eq, cases_lt, cases_Bool, both_ways, and_parts, cond-true, cond-false}
 use Rattle.slot_model.specs.Run.{held, holds}
 use Rattle.slot_model.proofs.Runs.{holds-is}
-use Rattle.tree_model.specs.declared.place.Parent.{Parent}
-use Rattle.tree_model.specs.declared.place.Parent.TheVariants.{Core as on_core, Part as on_part}
 use Rattle.tree_model.specs.declared.place.Place.TheVariants.{Core}
 use Rattle.tree_model.specs.View.{SystemView}
-use Rattle.tree_model.specs.System.{part_at, IsSystem, Stands}
+use Rattle.tree_model.specs.System.{part_at}
 use Rattle.tree_model.specs.Tree.{is_child, budget_at}
 use Rattle.trace_file.specs.Periods.{begins, count_between}
 use Rattle.trace_file.proofs.Counting.{between_alike}
@@ -17,15 +15,16 @@ use Rattle.rtds_queues.specs.declared.account.Account.{Account}
 use Rattle.release_file.specs.declared.workload.Wake.{Wake as Row}
 use Rattle.tree_model.specs.Plans.{IsPlan}
 use Rattle.release_file.specs.Workload.{is_started_at, is_blocked_at, start_of}
-use Rattle.rtds_sim.specs.Rtds.{period_number, period_from, used, level_at, deadline_at, can_run, is_eligible, goes_before, RtdsEntry, CoreRun}
+use Rattle.rtds_model.specs.Rtds.{period_number, period_from, used, level_at, deadline_at, can_run, is_eligible, goes_before, RtdsEntry, CoreRun}
 use Rattle.rtds_queues.specs.Keys.{goes_first}
-use Rattle.rtds_sim.specs.Printed.{core_of}
+use Rattle.rtds_trace.specs.Printed.{AreBefore}
 use Rattle.rtds_queues.specs.Accounts.{renewed, using, had_budget}
-use Rattle.rtds_sim.specs.inner.Accounts.{used_more, gone_on, left_of, HasNumbers, IsInPeriod, IsAccount, AreBefore}
+use Rattle.rtds_sim.specs.inner.Accounts.{used_more, gone_on, left_of, HasNumbers, IsInPeriod, IsAccount}
 use Rattle.rtds_sim.specs.inner.Running.{RowsFrom}
-use Rattle.rtds_sim.proofs.Runs.{entry_unique}
-use Rattle.rtds_sim.proofs.Taking.{none_between, all_left}
-use Rattle.rtds_sim.proofs.Entering.{started_by, blocked_by}
+use Rattle.rtds_model.proofs.Runs.{entry_unique}
+use Rattle.rtds_model.proofs.Counts.{none_between}
+use Rattle.rtds_sim.proofs.Taking.{all_left}
+use Rattle.rtds_trace.proofs.Rows.{started_by, blocked_by}
 
 -- budgets are had as often, until one is had once more
 pub same_quotient : (g m b : ℕ) → 1 ≤ b → m < b - g % b → (g + m) / b ≡ g / b
@@ -88,14 +87,6 @@ number_next period f x y some e =
     let q : ℕ = (x - f) / period in
     let e' : y - f ≡ suc q * period + 0 = omega arith in
     ap (λ (z : ℕ). z / period) e' ∙ div-mul-add (suc q) period 0 some
-
-pub core_in : (sys : SystemView) → IsSystem sys → (v : ℕ) → v < length sys.parts
-    → core_of (part_at sys v).parent < length sys.cores
-core_in sys is v l = go (part_at sys v).parent (is.parents v l)
-  where
-    go : (p : Parent) → Stands sys v p → core_of p < length sys.cores
-    go (on_core c) s = s
-    go (on_part q) s = omega (arith, is.some_core)
 
 -- what is known of core c at slot x, whose rows are taken and whose VCPU has it, and of a later
 -- slot

@@ -5,9 +5,8 @@ use Rattle.trace_file.specs.declared.event.Event.{Event}
 use Rattle.trace_file.specs.declared.event.What.TheVariants.{Run}
 use Rattle.rtds_queues.specs.declared.account.Account.{Account}
 use Rattle.rtds_queues.specs.Accounts.{account_at}
-use Rattle.rtds_sim.specs.Printed.{push_some, on_at, on_core_at, switch_to}
+use Rattle.rtds_trace.specs.Printed.{push_some, on_at, on_core_at, stays, going_to, switch_to}
 use Rattle.rtds_sim.specs.inner.Accounts.{part_of, InTurn}
-use Rattle.rtds_sim.specs.inner.Switching.{stays, going_to}
 use Rattle.rtds_sim.proofs.Members.{holds_part}
 
 -- a core tells where it goes unless it stays, by the parts of its VCPUs

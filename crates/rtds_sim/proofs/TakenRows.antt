@@ -14,7 +14,7 @@ use Rattle.rtds_queues.specs.Vcpus.{IsPlaceOf}
 use Rattle.rtds_queues.proofs.Setting.{account_here, account_there}
 use Rattle.rtds_sim.specs.declared.host_core.HostCore.{HostCore}
 use Rattle.rtds_sim.specs.inner.Accounts.{row_taken, TakesRow, InTurn, AreOf, IsSound, IsReady}
-use Rattle.rtds_sim.specs.Printed.{core_of}
+use Rattle.rtds_trace.specs.Printed.{core_of}
 use Rattle.rtds_sim.proofs.Members.{SameNumbers, one_place, turn_same}
 
 -- a row changes no numbers, and leaves an account sound

@@ -1,10 +1,9 @@
 -- Rows at one slot, taken one after the other.
-use Rattle.std.proofs.Common.{◌≡◌, ◌≢◌, ℕ, suc, ◌+◌, ◌*◌, ◌-◌, ◌/◌, ◌<◌, ◌≤◌, Bool, true, false, cond, leb, ◌&&◌, List, length, Option, Some, None, refl, sym, ◌∙◌, ap, arith, subst, inl, inr, eq-eqb, eqb-true, ne_eqb}
+use Rattle.std.proofs.Common.{◌≡◌, ◌≢◌, ℕ, suc, ◌+◌, ◌*◌, ◌-◌, ◌/◌, ◌<◌, ◌≤◌, Bool, true, false, ◌&&◌, List, length, Option, refl, sym, ◌∙◌, ap, arith, subst, inl, inr, eq-eqb, ne_eqb}
 use Rattle.std.specs.Prelude.{is_some}
-use Rattle.std.proofs.lemmas.Bool.{cases_eq, cases_Bool, and_parts, and_from, false≢true, lt-leb, and_right}
+use Rattle.std.proofs.lemmas.Bool.{cases_eq, and_from, and_right}
 use Rattle.std.proofs.Math.Nat.{div-eq_of_lt, zero-div}
 use Rattle.slot_model.specs.Run.{held, holds}
-use Rattle.slot_model.proofs.Sums.{sum_below-same, sum_below-none}
 use Rattle.tree_model.specs.View.{SystemView}
 use Rattle.tree_model.specs.System.{part_at}
 use Rattle.tree_model.specs.Tree.{budget_at}
@@ -14,63 +13,19 @@ use Rattle.rtds_queues.specs.declared.account.Account.{Account}
 use Rattle.release_file.specs.declared.workload.Wake.{Wake as Row}
 use Rattle.release_file.specs.declared.workload.WakeKind.{WakeKind}
 use Rattle.release_file.specs.declared.workload.WakeKind.TheVariants.{Start, Wake, Block}
-use Rattle.release_file.specs.Workload.{row_at, last_row, is_of, is_start, starts, is_block, blocks, slot_of, start_of, may_follow, IsWorkload}
-use Rattle.rtds_sim.specs.Rtds.{period_number, period_from, used}
-use Rattle.rtds_sim.specs.Printed.{event_of, row_event_at}
+use Rattle.release_file.specs.Workload.{row_at, is_of, is_start, starts, is_block, blocks, start_of, IsWorkload}
+use Rattle.rtds_model.specs.Rtds.{period_number, period_from, used}
 use Rattle.rtds_queues.specs.Accounts.{account_at}
 use Rattle.rtds_sim.specs.inner.Accounts.{left_of, row_taken, TakesRow, HasNumbers, IsInPeriod, IsAccount, AreOn}
 use Rattle.rtds_sim.proofs.Members.{of_same}
 use Rattle.rtds_sim.proofs.TakenRows.{takes_numbers}
-use Rattle.csv_rows.proofs.Last.{last_below-no, last_below-yes, last_is, some_row}
-
--- the event of a row at a slot
-pub row_none : (sys : SystemView) (rows : List Row) (x i : ℕ) → (row_at rows i).at ≢ x
-    → row_event_at sys rows x i ≡ None
-row_none sys rows x i ne =
-    ap (λ (b : Bool). cond b (Some (event_of sys (row_at rows i))) None) (ne_eqb (row_at rows i).at x ne)
-
-pub row_some : (sys : SystemView) (rows : List Row) (x i : ℕ) → (row_at rows i).at ≡ x
-    → row_event_at sys rows x i ≡ Some (event_of sys (row_at rows i))
-row_some sys rows x i e =
-    ap (λ (b : Bool). cond b (Some (event_of sys (row_at rows i))) None) (eq-eqb (row_at rows i).at x e)
-
--- no slot lies between a moment and itself
-pub none_between : (p : ℕ → Bool) (x : ℕ) → count_between p x x ≡ 0
-none_between p x =
-    sum_below-same (λ y. cond (leb x y && p y) 1 0) (λ y. 0) x
-    (λ y l. ap (λ (b : Bool). cond {A = ℕ} (b && p y) 1 0) (lt-leb x y l)) ∙ sum_below-none x
+use Rattle.csv_rows.proofs.Last.{last_below-no, last_below-yes}
+use Rattle.rtds_model.proofs.Starts.{start_is}
+use Rattle.rtds_model.proofs.Counts.{none_between}
 
 -- without slots all of a budget is left
 pub all_left : (budget : ℕ) → 1 ≤ budget → left_of 0 budget ≡ budget
 all_left budget some = omega (arith, some)
-
-module _ (sys : SystemView) (rows : List Row) (workload : IsWorkload sys rows) where
-  -- a VCPU starts once
-  start_once : (k v n : ℕ) → k < n → n ≤ length rows → is_of v (row_at rows k) ≡ true → (row_at rows k).what ≡ Start
-      → last_row (starts v) rows n ≡ Some (row_at rows k)
-  start_once k v n l h of is =
-      last_is (starts v) (row_at rows) k n l
-      (and_from (is_of v (row_at rows k)) (is_start (row_at rows k).what) of (ap is_start is))
-      (λ j a b. elim (cases_Bool (starts v (row_at rows j))) [
-        | inr off ↦ off
-        | inl on ↦
-            let parts = and_parts (is_of v (row_at rows j)) (is_start (row_at rows j).what) on in
-            absurd
-            (twice (row_at rows j).what (last_row (is_of v) rows j) parts.1 (some_row (is_of v) (row_at rows) j k a of)
-            (subst (λ (u : ℕ). may_follow (last_row (is_of u) rows j) (row_at rows j).what ≡ true)
-            (eqb-true (row_at rows j).vcpu v parts.0) (workload.in_turn j (omega arith))))
-      ])
-    where
-      twice : (what : WakeKind) (o : Option Row) → is_start what ≡ true → is_some o ≡ true → may_follow o what ≡ true
-          → ⊥
-      twice Start None a b c = false≢true b
-      twice Start (Some r) a b c = false≢true c
-      twice Wake o a b c = false≢true a
-      twice Block o a b c = false≢true a
-
-  pub start_is : (k v : ℕ) → k < length rows → is_of v (row_at rows k) ≡ true → (row_at rows k).what ≡ Start
-      → start_of rows v ≡ (row_at rows k).at
-  start_is k v l of is = ap slot_of (start_once k v (length rows) l (omega arith) of is)
 
 module _ (sys : SystemView) (budgets : List ℕ) (rows : List Row) (workload : IsWorkload sys rows) where
   -- the row of another VCPU

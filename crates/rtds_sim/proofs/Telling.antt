@@ -4,14 +4,13 @@ use Rattle.tree_model.specs.View.{SystemView}
 use Rattle.tree_model.specs.Tree.{run_at}
 use Rattle.trace_file.specs.declared.event.Event.{Event}
 use Rattle.release_file.specs.declared.workload.Wake.{Wake as Row}
-use Rattle.rtds_sim.specs.inner.Accounts.{AreBefore}
-use Rattle.rtds_sim.specs.Rtds.{RtdsRun}
-use Rattle.rtds_sim.specs.Printed.{push_some, gathered, stop_at, row_event_at, switch_at, printed_at, printed_below}
+use Rattle.rtds_trace.specs.Printed.{AreBefore, push_some, gathered, stop_at, row_event_at, switch_at, printed_at, printed_below}
+use Rattle.rtds_model.specs.Rtds.{RtdsRun}
 use Rattle.rtds_sim.specs.inner.Running.{RowsFrom}
 use Rattle.rtds_sim.specs.inner.Telling.{told_on, told_by}
-use Rattle.rtds_sim.proofs.Gathered.{gathered-suc, gathered-rest, gathered-none, push_behind}
+use Rattle.rtds_trace.proofs.Gathered.{gathered-suc, gathered-rest, gathered-none, push_behind, printed_below-suc}
 use Rattle.rtds_sim.proofs.Merging.{told_by-zero, told_by-suc}
-use Rattle.rtds_sim.proofs.Visits.{printed_below-suc, stops_none, rows_none}
+use Rattle.rtds_sim.proofs.Visits.{stops_none, rows_none}
 
 -- a core tells what is at slot t, and nothing at those behind it and before u
 pub told_more : (f : ℕ → Option Event) (x t u : ℕ) (before told : List Event) → x ≤ t → t < u

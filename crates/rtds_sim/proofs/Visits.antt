@@ -1,5 +1,5 @@
 -- What a visit of a slot tells, and that nothing is told until the next one.
-use Rattle.std.proofs.Common.{◌≡◌, ℕ, zero, suc, ◌<◌, ◌≤◌, Bool, true, false, not, cond, ◌&&◌, List, [], ◌++◌, length, Option, Some, None, refl, sym, ◌∙◌, ap, arith, inl, inr, eq-eqb, eqb-true, ◌==◌}
+use Rattle.std.proofs.Common.{◌≡◌, ℕ, zero, suc, ◌<◌, ◌≤◌, Bool, true, false, not, cond, ◌&&◌, List, [], length, Option, Some, None, refl, sym, ◌∙◌, ap, arith, inl, inr, eq-eqb, eqb-true, ◌==◌}
 use Rattle.std.proofs.lemmas.Bool.{cases_lt, and_parts, not-true}
 use Rattle.std.proofs.lemmas.Option.{none-some}
 use Rattle.slot_model.specs.Run.{held}
@@ -9,25 +9,14 @@ use Rattle.rtds_queues.specs.Accounts.{account_at}
 use Rattle.rtds_sim.specs.declared.host_core.HostCore.{HostCore}
 use Rattle.release_file.specs.declared.workload.Wake.{Wake as Row}
 use Rattle.release_file.specs.Workload.{is_started_at, is_blocked_at}
-use Rattle.rtds_sim.specs.Rtds.{can_run, CoreRun}
+use Rattle.rtds_model.specs.Rtds.{can_run, CoreRun}
 use Rattle.rtds_sim.specs.inner.Running.{RowsFrom, Stands}
-use Rattle.rtds_sim.specs.Printed.{gathered, on_at, on_core_at, switch_to, holder_before, is_blocked_one, holder_left, row_event_at, switch_on, printed_at, printed_below}
-use Rattle.rtds_sim.specs.inner.Accounts.{part_of, holder_of, is_blocked_in, gives_up, core_left, AreBefore, IsReady}
-use Rattle.rtds_sim.proofs.Runs.{eligible_runs}
-use Rattle.rtds_sim.proofs.Gathered.{gathered-none}
-use Rattle.rtds_sim.proofs.Taking.{row_none}
-use Rattle.rtds_sim.proofs.Entering.{blocked_by}
+use Rattle.rtds_trace.specs.Printed.{gathered, on_at, on_core_at, switch_to, holder_before, is_blocked_one, holder_left, row_event_at, switch_on, AreBefore}
+use Rattle.rtds_sim.specs.inner.Accounts.{part_of, holder_of, is_blocked_in, gives_up, core_left, IsReady}
+use Rattle.rtds_model.proofs.Runs.{eligible_runs}
+use Rattle.rtds_trace.proofs.Gathered.{gathered-none}
+use Rattle.rtds_trace.proofs.Rows.{row_none, blocked_by}
 use Rattle.rtds_sim.proofs.Steady.{taken_by}
-
-pub printed_below-zero : (sys : SystemView) (rows : List Row) (runs : List (List (Option ℕ)))
-    → printed_below sys rows runs 0 ≡ []
-unfolding printed_below
-printed_below-zero sys rows runs = refl
-
-pub printed_below-suc : (sys : SystemView) (rows : List Row) (runs : List (List (Option ℕ))) (x : ℕ)
-    → printed_below sys rows runs (suc x) ≡ printed_below sys rows runs x ++ printed_at sys rows runs x
-unfolding printed_below
-printed_below-suc sys rows runs x = refl
 
 -- a core that keeps its VCPU tells nothing
 pub switch_none : (o : Option ℕ) → switch_to o o ≡ None

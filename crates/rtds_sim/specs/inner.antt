@@ -3,5 +3,4 @@ pub mod Accounts
 pub mod Lists
 pub mod Running
 pub mod Soonest
-pub mod Switching
 pub mod Telling

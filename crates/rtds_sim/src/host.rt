@@ -35,7 +35,7 @@ impl Host {
     ghost use Rattle.release_file.specs.Workload.{row_at, IsWorkload};
     ghost use Rattle.trace_file.specs.Taker.{Took};
     ghost use Rattle.trace_file.specs.declared.event.What.TheVariants.{Stop};
-    ghost use Rattle.rtds_sim.specs.Printed.{core_of, gathered, on_at};
+    ghost use Rattle.rtds_trace.specs.Printed.{core_of, gathered, on_at};
     ghost use Rattle.rtds_sim.specs.inner.Accounts.{new_core, core_at, core_left, gives_up, holder_of, stop_of, AreOn, AreReady, TakesRow};
     ghost use Rattle.rtds_sim.specs.inner.Lists.{list_at};
     ghost use Rattle.rtds_sim.specs.inner.Running.{IsUnderway, HasRun};

@@ -3,7 +3,7 @@ ghost use Rattle.slot_model.specs.declared.task.TheConstants.{LIMIT};
 ghost use Rattle.tree_model.specs.System.{part_at};
 ghost use Rattle.trace_file.specs.Taker.{Took};
 ghost use Rattle.release_file.specs.Workload.{row_at};
-ghost use Rattle.rtds_sim.specs.Printed.{core_of, event_of, gathered, row_event_at};
+ghost use Rattle.rtds_trace.specs.Printed.{core_of, event_of, gathered, row_event_at};
 
 use crate::moment::moment_of_slot;
 use release_file::{Wake, WakeKind};

@@ -1,8 +1,7 @@
 ghost use Rattle.std.specs.Prelude.{◌≡◌, ◌≤◌, ◌<◌, if◌then◌else◌, [], ◌∷◌, ◌++◌, OnOk};
 ghost use Rattle.slot_model.specs.declared.task.TheConstants.{LIMIT};
 ghost use Rattle.tree_model.specs.declared.system.TheConstants.{MAX_CORES};
-ghost use Rattle.rtds_sim.specs.Printed.{on_at};
-ghost use Rattle.rtds_sim.specs.inner.Switching.{stays, going_to};
+ghost use Rattle.rtds_trace.specs.Printed.{on_at, stays, going_to};
 
 use crate::host_core::HostCore;
 use crate::moment::moment_of_slot;
@@ -59,7 +58,7 @@ impl HostCore {
     ghost use Rattle.tree_model.specs.View.{SystemView};
     ghost use Rattle.tree_model.specs.Plans.{IsPlan};
     ghost use Rattle.release_file.specs.declared.workload.Wake.{Wake as RowView};
-    ghost use Rattle.rtds_sim.specs.Printed.{push_some, on_core_at, switch_to};
+    ghost use Rattle.rtds_trace.specs.Printed.{push_some, on_core_at, switch_to};
     ghost use Rattle.rtds_queues.specs.Accounts.{account_at, begun};
     ghost use Rattle.rtds_queues.specs.Vcpus.{HavePeriods, IsChoice, IsFirstEnd, NoEndBefore};
     ghost use Rattle.rtds_sim.specs.inner.Accounts.{part_of, gone_on, used_more, IsReady};

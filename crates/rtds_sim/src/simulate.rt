@@ -1,21 +1,15 @@
 ghost use Rattle.std.specs.Prelude.{◌≡◌, ℕ, ◌≤◌, ◌<◌, ◌&&◌, List, Option, length, IfOk, IfErr, OnOk, MatchOption};
-ghost use Rattle.csv_rows.specs.Printing.{text_of};
-ghost use Rattle.csv_rows.specs.Reading.{records_of};
 ghost use Rattle.tree_model.specs.System.{IsSystem, is_edf};
-ghost use Rattle.tree_model.specs.Tree.{run_at};
 ghost use Rattle.trace_file.specs.declared.event.Event.{Event as EventView};
-ghost use Rattle.trace_printer.specs.Printing.{printed_rows};
 ghost use Rattle.trace_file.specs.Taker.{Took};
-ghost use Rattle.trace_file.specs.Rules.{Kept};
-ghost use Rattle.trace_file.specs.File.{Spells};
-ghost use Rattle.trace_file.specs.Periods.{Satisfied};
 ghost use Rattle.tree_model.specs.Plans.{IsPlan};
 ghost use Rattle.release_file.specs.Workload.{IsWorkload};
-ghost use Rattle.rtds_sim.specs.Rtds.{is_full, RtdsRun};
-ghost use Rattle.rtds_sim.specs.Printed.{printed, IsRtdsTrace};
-ghost use Rattle.rtds_sim.specs.RunText.{IsRunText};
+ghost use Rattle.rtds_model.specs.Rtds.{is_full};
+ghost use Rattle.rtds_trace.specs.Printed.{IsRtdsTrace};
+ghost use Rattle.rtds_trace.specs.RunTrace.{IsRunTrace};
+ghost use Rattle.rtds_trace.specs.RunText.{IsRunText};
 ghost use Rattle.rtds_sim.specs.Fault.{AllRtds, IsFirstOther, IsRtdsFault};
-ghost use Rattle.rtds_sim.specs.Giving.{AlwaysRunnable, ServersFit, AlwaysServed, GivesBudgets, NeverOver, NoneOver};
+ghost use Rattle.rtds_model.specs.Giving.{RunsGive};
 
 use crate::RtdsFault;
 use crate::host::Host;
@@ -43,30 +37,11 @@ pub fn run_rtds(
     requires workload { IsWorkload sys.now wakes.now }
     requires some { 1 ≤ slots }
     requires short { slots ≤ 1000000 }
-    ensures trace { IfOk result (λ trace. IsRtdsTrace sys.now plan.now wakes.now slots trace) }
-    ensures only { IfOk result (λ trace. (runs : List (List (Option ℕ))) →
-        RtdsRun sys.now plan.now wakes.now slots runs →
-        trace ≡ printed sys.now wakes.now runs slots) }
-    ensures kept { IfOk result (λ trace. Kept sys.now trace) }
+    ensures trace { IfOk result
+        (λ trace. IsRunTrace sys.now plan.now wakes.now slots trace) }
     ensures rtds { IfOk result (λ trace. AllRtds sys.now (length sys.now.cores)) }
     ensures fault { IfErr result (IsRtdsFault sys.now) }
-
-    // On a core whose servers pass the test, VCPUs that never block have their budgets in each
-    // period, whenever each starts.
-    ensures gives { (runs : List (List (Option ℕ))) (c : ℕ) →
-        RtdsRun sys.now plan.now wakes.now slots runs → c < length sys.now.cores →
-        AlwaysRunnable sys.now wakes.now c → ServersFit sys.now plan.now c →
-        GivesBudgets sys.now plan.now wakes.now slots c (run_at runs c) }
-
-    // So no period in the trace is short or over, where that holds of each core.
-    ensures satisfied { IfOk result (λ trace.
-        AlwaysServed sys.now plan.now wakes.now → Satisfied sys.now plan.now trace) }
-
-    // Over any workload no VCPU without extra time has more than its budget in a period.
-    ensures never_over { (runs : List (List (Option ℕ))) (c : ℕ) →
-        RtdsRun sys.now plan.now wakes.now slots runs → c < length sys.now.cores →
-        NeverOver sys.now plan.now wakes.now (run_at runs c) }
-    ensures none_over { IfOk result (λ trace. NoneOver sys.now plan.now trace) }
+    ensures gives { RunsGive sys.now plan.now wakes.now slots }
 {
     if let Some(core) = other_core(sys) {
         return Err(RtdsFault::NotRtds(core));
@@ -90,31 +65,9 @@ pub fn print_rtds(
     requires some { 1 ≤ slots }
     requires short { slots ≤ 1000000 }
     ensures text { IfOk result (λ text. IsRunText sys.now plan.now wakes.now slots text.items) }
-    ensures only { IfOk result (λ text. (runs : List (List (Option ℕ))) →
-        RtdsRun sys.now plan.now wakes.now slots runs →
-        text.items ≡ text_of (printed_rows sys.now (printed sys.now wakes.now runs slots))) }
     ensures rtds { IfOk result (λ text. AllRtds sys.now (length sys.now.cores)) }
     ensures fault { IfErr result (IsRtdsFault sys.now) }
-
-    // On a core whose servers pass the test, VCPUs that never block have their budgets in each
-    // period, whenever each starts.
-    ensures gives { (runs : List (List (Option ℕ))) (c : ℕ) →
-        RtdsRun sys.now plan.now wakes.now slots runs → c < length sys.now.cores →
-        AlwaysRunnable sys.now wakes.now c → ServersFit sys.now plan.now c →
-        GivesBudgets sys.now plan.now wakes.now slots c (run_at runs c) }
-
-    // So no period is short or over in what this text is read as, where that holds of each core;
-    // that it is read as a trace is `text`.
-    ensures satisfied { IfOk result (λ text. (events : List EventView) →
-        Spells sys.now (records_of text.items) events →
-        AlwaysServed sys.now plan.now wakes.now → Satisfied sys.now plan.now events) }
-
-    // Over any workload no VCPU without extra time has more than its budget in a period.
-    ensures never_over { (runs : List (List (Option ℕ))) (c : ℕ) →
-        RtdsRun sys.now plan.now wakes.now slots runs → c < length sys.now.cores →
-        NeverOver sys.now plan.now wakes.now (run_at runs c) }
-    ensures none_over { IfOk result (λ text. (events : List EventView) →
-        Spells sys.now (records_of text.items) events → NoneOver sys.now plan.now events) }
+    ensures gives { RunsGive sys.now plan.now wakes.now slots }
 {
     if let Some(core) = other_core(sys) {
         return Err(RtdsFault::NotRtds(core));
@@ -157,8 +110,7 @@ fn simulated(
     requires workload { IsWorkload sys.now wakes.now }
     requires short { slots ≤ 1000000 }
     ensures trace { IfOk result
-        (λ events. IsRtdsTrace sys.now plan.now wakes.now slots events.items) }
-    ensures system { IsSystem sys.now }
+        (λ events. IsRunTrace sys.now plan.now wakes.now slots events.items) }
 {
     let mut events = Vec::new(alloc);
     tell_run(alloc, sys, plan, wakes, slots, &mut events)?;

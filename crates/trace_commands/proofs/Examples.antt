@@ -46,7 +46,7 @@ use Rattle.command_steps.specs.Budgets.{AssignedOrNone, IsTrulyOverfull, IsTruly
 use Rattle.command_steps.specs.CommandSpec.{IsVerdict}
 use Rattle.command_steps.proofs.Attempt.{refused_first}
 use Rattle.command_steps.proofs.Budgets.{assigning_decided, composing_decided}
-use Rattle.rtds_sim.specs.Demand.{later}
+use Rattle.rtds_model.specs.Demand.{later}
 use Rattle.rtds_sim.specs.Fault.{AllRtds, IsFirstOther}
 use Rattle.system_file.specs.SystemFile.{system_of}
 use Rattle.trace_commands.specs.Audit.{tracing, finding_status, the_audit, AuditMeans, AuditsBytes, IsAudited, OnTrace, TellsSatisfied}
@@ -67,8 +67,8 @@ use Rattle.trace_file.specs.File.{Spells}
 use Rattle.trace_printer.specs.Printing.{printed_rows}
 use Rattle.release_file.specs.Workload.{IsWorkload}
 use Rattle.release_file.specs.declared.workload.Wake.{Wake}
-use Rattle.rtds_sim.specs.Rtds.{CoreRun, RtdsRun}
-use Rattle.rtds_sim.specs.Giving.{AlwaysRunnable, ServersFit, AlwaysServed, GivesBudgets, NeverOver, NoneOver}
+use Rattle.rtds_model.specs.Rtds.{CoreRun, RtdsRun}
+use Rattle.rtds_model.specs.Giving.{AlwaysRunnable, ServersFit, AlwaysServed, GivesBudgets, NeverOver, NoneOver}
 use Rattle.trace_commands.specs.Rtds.{IsTraceOf, IsTraceText, RunMeans, RunsBytes, TellsRun, running, waking}
 
 -- faults of the trace

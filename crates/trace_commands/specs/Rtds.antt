@@ -14,10 +14,10 @@ use Rattle.release_file.specs.declared.fault.ReleaseFault.{ReleaseFault}
 use Rattle.release_file.specs.declared.workload.Wake.{Wake}
 use Rattle.release_file.specs.WorkloadFile.{SpellsWorkload, IsWorkloadFault, wake_rows}
 use Rattle.system_file.specs.SystemFile.{system_of}
-use Rattle.rtds_sim.specs.Rtds.{RtdsRun}
-use Rattle.rtds_sim.specs.Printed.{IsRtdsTrace}
+use Rattle.rtds_model.specs.Rtds.{RtdsRun}
+use Rattle.rtds_trace.specs.Printed.{IsRtdsTrace}
 use Rattle.rtds_sim.specs.Fault.{AllRtds, IsFirstOther}
-use Rattle.rtds_sim.specs.Giving.{AlwaysRunnable, ServersFit, AlwaysServed, GivesBudgets, NeverOver, NoneOver}
+use Rattle.rtds_model.specs.Giving.{AlwaysRunnable, ServersFit, AlwaysServed, GivesBudgets, NeverOver, NoneOver}
 use Rattle.rt_report.specs.declared.fault.FileFault.TheVariants.{Release}
 use Rattle.rt_report.specs.Fault.{fault_text, not_rtds_text}
 use Rattle.command_steps.specs.declared.status.Status.{Status}

@@ -6,7 +6,7 @@ ghost use Rattle.release_file.specs.WorkloadFile.{SpellsWorkload};
 ghost use Rattle.rt_report.specs.Fault.{not_rtds_text};
 ghost use Rattle.command_steps.specs.Attempt.{IsRefused};
 ghost use Rattle.rtds_sim.specs.Fault.{AllRtds};
-ghost use Rattle.rtds_sim.specs.RunText.{IsRunText};
+ghost use Rattle.rtds_trace.specs.RunText.{IsRunText};
 ghost use Rattle.trace_commands.specs.Rtds.{waking, running, RunsBytes, the_rtds};
 ghost use Rattle.command_steps.specs.Steps.{IfAnswered, EndsJudged};
 

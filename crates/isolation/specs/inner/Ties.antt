@@ -2,7 +2,7 @@
 use Rattle.std.specs.Prelude.{ℕ}
 use Rattle.isolation.specs.declared.ties.Ties.{Ties}
 use Rattle.isolation.specs.declared.ties.Ties.TheVariants.{Open, InFileOrder}
-use Rattle.rtds_sim.specs.Demand.{later}
+use Rattle.rtds_model.specs.Demand.{later}
 use Rattle.isolation.specs.Demand.{no_tie}
 
 -- the slots that a tie costs

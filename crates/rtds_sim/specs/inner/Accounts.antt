@@ -11,14 +11,14 @@ use Rattle.trace_file.specs.declared.event.What.TheVariants.{Stop}
 use Rattle.release_file.specs.declared.workload.Wake.{Wake as Row}
 use Rattle.release_file.specs.declared.workload.WakeKind.{WakeKind}
 use Rattle.release_file.specs.declared.workload.WakeKind.TheVariants.{Start, Wake, Block}
-use Rattle.release_file.specs.Workload.{row_at, started_after, blocked_after}
+use Rattle.release_file.specs.Workload.{started_after, blocked_after}
 use Rattle.rtds_queues.specs.declared.account.Account.{Account}
 use Rattle.rtds_queues.specs.Accounts.{no_account, account_at, renewed, starting, waking, blocking, had_slots}
 use Rattle.rtds_queues.specs.Vcpus.{IsPlaceOf, NoEndBefore}
 use Rattle.rtds_sim.specs.declared.host_core.HostCore.{HostCore}
 use Rattle.rtds_sim.specs.declared.host.Host.{Host}
-use Rattle.rtds_sim.specs.Rtds.{used, level_at, deadline_at}
-use Rattle.rtds_sim.specs.Printed.{on_at}
+use Rattle.rtds_model.specs.Rtds.{used, level_at, deadline_at}
+use Rattle.rtds_trace.specs.Printed.{on_at}
 
 -- the account of a part before the first slot
 abbrev pub new_account : SystemView → List ℕ → ℕ → Account
@@ -144,12 +144,6 @@ pub record AreOn (sys : SystemView) (budgets : List ℕ) (rows : List Row) (c : 
   pub of : AreOf sys budgets c accounts
   pub each : (v : ℕ) → v < length accounts →
       IsAccount sys budgets rows run (account_at accounts v).part x k (account_at accounts v)
-
--- the first k rows are those before slot x
-pub record AreBefore (rows : List Row) (k x : ℕ) : Type 0 where
-  pub in_rows : k ≤ length rows
-  pub past : (i : ℕ) → i < k → (row_at rows i).at < x
-  pub to_come : (i : ℕ) → k ≤ i → i < length rows → x ≤ (row_at rows i).at
 
 -- a period and a budget are in range
 pub record AreInRange (period budget : ℕ) : Type 0 where

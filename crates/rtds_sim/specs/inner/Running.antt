@@ -5,9 +5,9 @@ use Rattle.trace_file.specs.declared.event.Event.{Event}
 use Rattle.release_file.specs.declared.workload.Wake.{Wake as Row}
 use Rattle.release_file.specs.Workload.{row_at}
 use Rattle.rtds_sim.specs.declared.host_core.HostCore.{HostCore}
-use Rattle.rtds_sim.specs.inner.Accounts.{holder_of, AreOn, AreBefore}
-use Rattle.rtds_sim.specs.Printed.{holder_before, holder_left, switch_on}
-use Rattle.rtds_sim.specs.Rtds.{CoreRun}
+use Rattle.rtds_sim.specs.inner.Accounts.{holder_of, AreOn}
+use Rattle.rtds_trace.specs.Printed.{AreBefore, holder_before, holder_left, switch_on}
+use Rattle.rtds_model.specs.Rtds.{CoreRun}
 use Rattle.rtds_sim.specs.inner.Telling.{told_on}
 
 -- no row behind the first k comes before a slot

@@ -3,7 +3,7 @@ use Rattle.std.specs.Prelude.{◌≡◌, ℕ, zero, suc, ◌+◌, ◌<◌, List,
 use Rattle.std.specs.Global.{Vec}
 use Rattle.trace_file.specs.declared.event.Event.{Event}
 use Rattle.rtds_sim.specs.inner.Lists.{list_at}
-use Rattle.rtds_sim.specs.Printed.{gathered, moment_of_slot}
+use Rattle.rtds_trace.specs.Printed.{gathered, moment_of_slot}
 
 -- what is told at the m slots from x on, where f tells what is at each, if anything
 abbrev pub told_on : (ℕ → Option Event) → ℕ → ℕ → List Event

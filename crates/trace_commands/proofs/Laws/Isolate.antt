@@ -8,10 +8,10 @@ use Rattle.tree_model.specs.Plans.{IsPlan}
 use Rattle.tree_model.specs.Admission.{Admitted}
 use Rattle.tree_model.proofs.InRange.{assigned_is_plan}
 use Rattle.trace_file.specs.Rules.{is_core, is_vcpu}
-use Rattle.rtds_sim.specs.Rtds.{is_rtds}
+use Rattle.rtds_model.specs.Rtds.{is_rtds}
 use Rattle.rtds_sim.specs.Fault.{AllRtds, IsFirstOther}
-use Rattle.rtds_sim.specs.Giving.{ServersFit}
-use Rattle.rtds_sim.proofs.Keeping.{OnCore, vcpu_core}
+use Rattle.rtds_model.specs.Giving.{ServersFit}
+use Rattle.rtds_trace.proofs.Keeping.{OnCore, vcpu_core}
 use Rattle.isolation.specs.declared.isolation.Isolation.{Isolation}
 use Rattle.isolation.specs.declared.isolation.Isolation.TheVariants.{Isolated, ByTies, ByBlock}
 use Rattle.isolation.specs.declared.vcpus.PartIsolation.{PartIsolation}

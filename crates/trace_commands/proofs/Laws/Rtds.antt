@@ -19,10 +19,12 @@ use Rattle.release_file.specs.WorkloadFile.{wake_rows}
 use Rattle.release_file.proofs.OneWorkload.{one_workload, no_workload_fault, one_workload_fault}
 use Rattle.release_file.proofs.SpeltWorkload.{spelt_workload}
 use Rattle.system_file.specs.SystemFile.{system_of}
-use Rattle.rtds_sim.specs.Rtds.{is_full, is_rtds}
+use Rattle.rtds_model.specs.Rtds.{is_full, is_rtds}
 use Rattle.rtds_sim.specs.Fault.{AllRtds, IsFirstOther}
-use Rattle.rtds_sim.specs.Giving.{AlwaysServed, ServersFit}
-use Rattle.rtds_sim.proofs.RunTraces.{each_gives, each_never_over, trace_of, trace_none_over, trace_satisfied}
+use Rattle.rtds_model.specs.Giving.{AlwaysServed, RunsGive, ServersFit}
+use Rattle.rtds_model.proofs.RunsGive.{runs_give}
+use Rattle.rtds_trace.specs.RunTrace.{IsRunTrace}
+use Rattle.rtds_trace.proofs.RunTraces.{trace_of, run_trace}
 use Rattle.command_steps.specs.declared.status.Status.{Status}
 use Rattle.command_steps.specs.declared.status.Status.TheVariants.{Yes, BadFile}
 use Rattle.command_steps.specs.Answer.{Contents, IfNo, IsOne, IsReadable}
@@ -135,19 +137,21 @@ tells_run : (sys : SystemView) → IsSystem sys → (budgets : List ℕ) → IsP
     → IsWorkload sys wakes → (slots : ℕ) → slots ≤ 1000000 → (events : List Event) (status : Status) (text : List ℕ)
     → IsTraceOf sys budgets wakes slots events → IsTraceText sys events status text
     → TellsRun sys budgets wakes slots text
-tells_run sys is budgets plan wakes workload slots few events status text trace printed_is = record {
-  events = events;
-  trace = trace;
-  told = printed_is.told;
-  reads_back = printed_is.reads_back;
-  none_over = trace_none_over sys is budgets plan wakes workload slots few events trace.trace;
-  never_over = each_never_over sys budgets plan wakes slots;
-  gives = each_gives sys budgets plan wakes workload slots;
-  served = trace_satisfied sys is budgets plan wakes workload slots few events trace.trace;
-  satisfied =
-      λ h. trace_satisfied sys is budgets plan wakes workload slots few events trace.trace
-      (served sys budgets wakes trace.all h);
-}
+tells_run sys is budgets plan wakes workload slots few events status text trace printed_is =
+    let run : IsRunTrace sys budgets wakes slots events
+    = run_trace sys is budgets plan wakes workload slots few events trace.trace in
+    let each : RunsGive sys budgets wakes slots = runs_give sys budgets plan wakes workload slots in
+    record {
+      events = events;
+      trace = trace;
+      told = printed_is.told;
+      reads_back = printed_is.reads_back;
+      none_over = run.none_over;
+      never_over = each.never_over;
+      gives = each.gives;
+      served = run.satisfied;
+      satisfied = λ h. run.satisfied (served sys budgets wakes trace.all h);
+    }
 
 printed_tells : (sys : SystemView) → IsSystem sys → (budgets : List ℕ) → IsPlan sys budgets → (wakes : List Wake)
     → IsWorkload sys wakes → (slots : ℕ) → slots ≤ 1000000 → (status : Status) (text : List ℕ)

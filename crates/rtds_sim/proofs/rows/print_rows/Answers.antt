@@ -2,9 +2,9 @@ use Rattle.std.proofs.Common.{◌≡◌, ℕ, [], length, Option, Some, sym, ◌
 use Rattle.trace_file.specs.declared.event.Event.{Event}
 use Rattle.release_file.specs.declared.workload.Wake.{Wake}
 use Rattle.release_file.specs.Workload.{row_at}
-use Rattle.rtds_sim.specs.Printed.{event_of, gathered, row_event_at}
-use Rattle.rtds_sim.proofs.Gathered.{gathered-none, gathered-rest, took_nothing, took_same, took_one}
-use Rattle.rtds_sim.proofs.Taking.{row_none, row_some}
+use Rattle.rtds_trace.specs.Printed.{event_of, gathered, row_event_at}
+use Rattle.rtds_trace.proofs.Gathered.{gathered-none, gathered-rest, took_nothing, took_same, took_one}
+use Rattle.rtds_trace.proofs.Rows.{row_none, row_some}
 use Rattle.rtds_sim.proofs.rows.print_rows.Goals as goal
 
 pub loop-i-init : goal.loop-i-init

@@ -1,7 +1,7 @@
 use Rattle.std.proofs.Common.{◌≡◌, ℕ, ◌≤◌, ◌<◌, length}
 use Rattle.release_file.specs.Workload.{row_at}
 use Rattle.trace_file.specs.Taker.{Took}
-use Rattle.rtds_sim.specs.Printed.{gathered, row_event_at}
+use Rattle.rtds_trace.specs.Printed.{gathered, row_event_at}
 use Rattle.rtds_sim.proofs.rows.print_rows.Given as goal
 
 -- the events of the rows so far

@@ -1,12 +1,15 @@
-use Rattle.std.proofs.Common.{◌≡◌, ◌≤◌, [], ◌∙◌, sym, ap, subst}
+use Rattle.std.proofs.Common.{◌≡◌, [], ◌∙◌, sym, ap, subst}
 use Rattle.trace_file.specs.declared.unit.Unit.{Unit}
 use Rattle.trace_file.specs.declared.unit.Unit.TheVariants.{Microseconds}
 use Rattle.trace_printer.specs.Printer.{HasPrinted}
 use Rattle.trace_printer.specs.Printing.{unit_for}
-use Rattle.trace_file.specs.Rules.{Kept}
+use Rattle.trace_file.specs.File.{Spells}
+use Rattle.trace_file.proofs.Same.{same_events}
+use Rattle.csv_rows.specs.Reading.{records_of}
 use Rattle.trace_printer.proofs.Printers.{own, as_from}
-use Rattle.rtds_sim.proofs.RunTraces.{trace_kept, trace_none_over, trace_satisfied}
-use Rattle.rtds_sim.proofs.Traced.{whole_unit}
+use Rattle.rtds_trace.specs.RunTrace.{IsRunTrace}
+use Rattle.rtds_trace.proofs.RunTraces.{run_trace}
+use Rattle.rtds_trace.proofs.Traced.{whole_unit}
 use Rattle.rtds_sim.proofs.simulate.printed.Goals as goal
 
 pub returns : goal.returns
@@ -25,17 +28,16 @@ returns c =
     let whole : unit_for told ≡ Microseconds = ap unit_for events ∙ whole_unit sys rows runs n in
     let printed : HasPrinted sys (unit_for told) told c.tell_run.new.events
     = subst (λ (u : Unit). HasPrinted sys u told c.tell_run.new.events) (sym whole) all in
-    let few : n ≤ 1000000 = c.requires.short in
-    let kept : Kept sys told
-    = trace_kept sys system budgets c.requires.plan rows c.requires.workload n few told trace in
+    let run : IsRunTrace sys budgets rows n told
+    = run_trace sys system budgets c.requires.plan rows c.requires.workload n c.requires.short told trace in
+    let reads_back : Spells sys (records_of c.finish.result.items) told
+    = c.finish.ensures.reads_back sys told printed system run.kept in
     record {
       text = record {
         events = told;
-        trace = trace;
-        kept = kept;
+        run = run;
         told = c.finish.ensures.text sys told printed;
-        reads_back = c.finish.ensures.reads_back sys told printed system kept;
-        none_over = trace_none_over sys system budgets c.requires.plan rows c.requires.workload n few told trace;
-        satisfied = trace_satisfied sys system budgets c.requires.plan rows c.requires.workload n few told trace;
+        reads_back = reads_back;
+        reads_only = λ read is. same_events sys (records_of c.finish.result.items) read told is reads_back;
       };
     }

@@ -9,17 +9,17 @@ use Rattle.rtds_sim.specs.declared.host_core.HostCore.{HostCore}
 use Rattle.rtds_sim.specs.declared.host.Host.{Host}
 use Rattle.release_file.specs.declared.workload.Wake.{Wake as Row}
 use Rattle.release_file.specs.Workload.{row_at}
-use Rattle.rtds_sim.specs.Rtds.{RtdsRun}
+use Rattle.rtds_model.specs.Rtds.{RtdsRun}
 use Rattle.trace_file.specs.Taker.{Took}
-use Rattle.rtds_sim.specs.Printed.{moment_of_slot, printed_below, gathered, row_event_at, stop_at, switch_at, switch_to, on_core_at, holder_before, is_blocked_one, holder_left, on_at, printed}
-use Rattle.rtds_sim.specs.inner.Accounts.{core_at, core_left, holder_of, gives_up, stop_of, AreBefore, AreOn, IsReady}
+use Rattle.rtds_trace.specs.Printed.{moment_of_slot, printed_below, gathered, row_event_at, stop_at, switch_at, switch_to, on_core_at, holder_before, is_blocked_one, holder_left, on_at, printed, AreBefore}
+use Rattle.rtds_sim.specs.inner.Accounts.{core_at, core_left, holder_of, gives_up, stop_of, AreOn, IsReady}
 use Rattle.rtds_sim.specs.inner.Running.{RowsFrom, HasRun}
 use Rattle.rtds_sim.specs.inner.Lists.{list_at}
 use Rattle.rtds_sim.specs.inner.Telling.{told_by, AreAtSlots}
 use Rattle.rtds_sim.proofs.Members.{fresh_ready}
-use Rattle.rtds_sim.proofs.Runs.{rtds_run, rtds_run-is}
-use Rattle.rtds_sim.proofs.Gathered.{gathered-same, took_nothing, took_same, took_more}
-use Rattle.rtds_sim.proofs.Visits.{printed_below-zero, gives_up_is, none_blocks, left_is, left_vcpus, left_ready}
+use Rattle.rtds_model.proofs.Runs.{rtds_run, rtds_run-is}
+use Rattle.rtds_trace.proofs.Gathered.{gathered-same, took_nothing, took_same, took_more, printed_below-zero}
+use Rattle.rtds_sim.proofs.Visits.{gives_up_is, none_blocks, left_is, left_vcpus, left_ready}
 use Rattle.rtds_sim.proofs.Telling.{printed_on}
 use Rattle.rtds_sim.proofs.Standing.{Visit, standing_start, standing_next, visit_rows}
 use Rattle.release_file.proofs.Rows.{ordered}

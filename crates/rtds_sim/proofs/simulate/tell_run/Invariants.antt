@@ -1,9 +1,9 @@
 use Rattle.std.proofs.Common.{◌≡◌, ℕ, ◌-◌, ◌≤◌, [], length}
 use Rattle.trace_file.specs.Taker.{Took}
-use Rattle.rtds_sim.specs.Printed.{printed_below}
+use Rattle.rtds_trace.specs.Printed.{printed_below}
 use Rattle.rtds_sim.specs.inner.Accounts.{AreReady}
 use Rattle.rtds_sim.specs.inner.Lists.{list_at}
-use Rattle.rtds_sim.proofs.Runs.{rtds_run}
+use Rattle.rtds_model.proofs.Runs.{rtds_run}
 use Rattle.rtds_sim.proofs.Standing.{Standing}
 use Rattle.rtds_sim.proofs.simulate.tell_run.Given as goal
 

@@ -4,7 +4,7 @@ use Rattle.tree_model.specs.System.{part_at}
 use Rattle.tree_model.specs.Tree.{run_at}
 use Rattle.release_file.specs.declared.workload.Wake.{Wake}
 use Rattle.release_file.specs.Workload.{row_at}
-use Rattle.rtds_sim.specs.Printed.{core_of}
+use Rattle.rtds_trace.specs.Printed.{core_of}
 use Rattle.rtds_sim.specs.declared.host_core.HostCore.{HostCore}
 use Rattle.rtds_sim.specs.inner.Accounts.{core_at, TakesRow, AreOn}
 use Rattle.rtds_sim.proofs.TakenRows.{takes_elsewhere}

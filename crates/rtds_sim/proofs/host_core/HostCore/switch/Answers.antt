@@ -1,8 +1,7 @@
 use Rattle.std.proofs.Common.{◌≡◌, ℕ, Bool, cond, List, [], ◌∷◌, ◌++◌, Option, ◌∙◌, ap, subst}
 use Rattle.std.specs.Prelude.{OnOk}
 use Rattle.trace_file.specs.declared.event.Event.{Event}
-use Rattle.rtds_sim.specs.Printed.{on_at}
-use Rattle.rtds_sim.specs.inner.Switching.{stays, going_to}
+use Rattle.rtds_trace.specs.Printed.{on_at, stays, going_to}
 use Rattle.rtds_sim.proofs.Switching.{told_switch}
 use Rattle.rtds_sim.proofs.host_core.HostCore.switch.Goals as goal
 

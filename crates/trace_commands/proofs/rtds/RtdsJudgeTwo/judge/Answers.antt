@@ -1,6 +1,6 @@
 use Rattle.std.proofs.Common.{List, refl, subst, inl}
 use Rattle.release_file.specs.declared.workload.Wake.{Wake}
-use Rattle.rtds_sim.specs.RunText.{IsRunText}
+use Rattle.rtds_trace.specs.RunText.{IsRunText}
 use Rattle.trace_commands.proofs.rtds.RtdsJudgeTwo.judge.Goals as goal
 
 pub returns-clause-answer : goal.returns-clause-answer
@@ -18,7 +18,7 @@ returns-clause-answer c =
         gives = c.in_ok-plan.ensures.assigned;
         said = inl (record {
           value = made.events;
-          gives = record { all = c.in_ok-text.ensures.rtds; trace = made.trace };
+          gives = record { all = c.in_ok-text.ensures.rtds; trace = made.run.trace };
           said = record { status_is = refl; told = made.told; reads_back = made.reads_back };
         });
       });

@@ -5,21 +5,15 @@ use Rattle.csv_rows.specs.Reading.{records_of}
 use Rattle.tree_model.specs.View.{SystemView}
 use Rattle.trace_file.specs.declared.event.Event.{Event}
 use Rattle.trace_file.specs.File.{Spells}
-use Rattle.trace_file.specs.Periods.{Satisfied}
 use Rattle.trace_printer.specs.Printing.{printed_rows}
-use Rattle.trace_file.specs.Rules.{Kept}
 use Rattle.release_file.specs.declared.workload.Wake.{Wake}
-use Rattle.rtds_sim.specs.Giving.{AlwaysServed, NoneOver}
-use Rattle.rtds_sim.specs.Printed.{IsRtdsTrace}
+use Rattle.rtds_trace.specs.RunTrace.{IsRunTrace}
 
--- it tells the trace of the run, which keeps the rules, and is read back as its events; no period
--- in the trace is over, and none is short where that holds of each core
+-- it tells the trace of the run, and is read back as its events and as no others
 pub record IsRunText (sys : SystemView) (budgets : List ℕ) (rows : List Wake) (n : ℕ)
     (text : List ℕ) : Type 0 where
   pub events : List Event
-  pub trace : IsRtdsTrace sys budgets rows n events
-  pub kept : Kept sys events
+  pub run : IsRunTrace sys budgets rows n events
   pub told : text ≡ text_of (printed_rows sys events)
   pub reads_back : Spells sys (records_of text) events
-  pub none_over : NoneOver sys budgets events
-  pub satisfied : AlwaysServed sys budgets rows → Satisfied sys budgets events
+  pub reads_only : (read : List Event) → Spells sys (records_of text) read → read ≡ events

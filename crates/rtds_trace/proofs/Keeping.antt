@@ -10,13 +10,13 @@ use Rattle.tree_model.specs.declared.place.Parent.{Parent}
 use Rattle.tree_model.specs.declared.place.Parent.TheVariants.{Core as on_core, Part as on_part}
 use Rattle.tree_model.specs.declared.place.Place.TheVariants.{Core}
 use Rattle.tree_model.specs.View.{SystemView}
-use Rattle.tree_model.specs.System.{part_at, IsSystem}
+use Rattle.tree_model.specs.System.{part_at, IsSystem, Stands}
 use Rattle.tree_model.specs.Tree.{place_of, same_place, is_child, run_at}
 use Rattle.tree_model.proofs.Children.{same_itself}
 use Rattle.trace_file.proofs.Known.{child_vcpu}
 use Rattle.trace_file.specs.declared.event.Event.{Event}
 use Rattle.trace_file.specs.declared.event.What.{What}
-use Rattle.trace_file.specs.declared.event.What.TheVariants.{Start, Wake, Block, Run, Stop, End}
+use Rattle.trace_file.specs.declared.event.What.TheVariants.{Run, Stop, End}
 use Rattle.trace_file.specs.declared.fault.TraceFault.TheVariants.{StartedTwice, NotStarted, NotBlocked, NotRunnable, StillRunning, CoreIdle}
 use Rattle.trace_file.specs.Events.{event_at, is_start_of, is_change_of, is_switch, is_end, is_block as blocks_it, blocks as blocks_last, switches, runner, runner_of, is_started, is_blocked, holder}
 use Rattle.trace_file.specs.Rules.{row_of, fault_if, named, is_core, is_vcpu, is_known, stands_on, what_fault, Kept}
@@ -25,17 +25,13 @@ use Rattle.release_file.specs.declared.workload.Wake.{Wake as Row}
 use Rattle.release_file.specs.declared.workload.WakeKind.{WakeKind}
 use Rattle.release_file.specs.declared.workload.WakeKind.TheVariants.{Start as ToStart, Wake as ToWake, Block as ToBlock}
 use Rattle.release_file.specs.Workload.{row_at, last_row, is_of, is_start, starts, is_block, blocks, started_after, blocked_after, is_started_at, is_blocked_at, may_follow, IsWorkload}
-use Rattle.rtds_sim.specs.Rtds.{can_run, RtdsRun}
-use Rattle.rtds_sim.specs.Printed.{moment_of_slot, push_some, gathered, core_of, what_of, event_of, on_at, on_core_at, switch_to, holder_before, is_blocked_one, holder_left, stop_at, row_event_at, switch_at, printed_at, printed_below, printed}
-use Rattle.rtds_sim.specs.inner.Accounts.{AreBefore}
-use Rattle.rtds_sim.proofs.Runs.{eligible_runs}
-use Rattle.rtds_sim.proofs.Gathered.{gathered-zero, gathered-suc, gathered-none, gathered-rest, push_behind}
-use Rattle.rtds_sim.proofs.Taking.{row_none, row_some}
-use Rattle.rtds_sim.proofs.Entering.{started_by, blocked_by}
-use Rattle.rtds_sim.proofs.Steady.{core_in}
-use Rattle.rtds_sim.proofs.Visits.{printed_below-zero, printed_below-suc}
+use Rattle.rtds_model.specs.Rtds.{can_run, RtdsRun}
+use Rattle.rtds_trace.specs.Printed.{moment_of_slot, push_some, gathered, core_of, what_of, event_of, on_at, on_core_at, going_to, switch_to, holder_before, is_blocked_one, holder_left, stop_at, row_event_at, switch_at, printed_at, printed_below, printed, AreBefore}
+use Rattle.rtds_model.proofs.Runs.{eligible_runs}
+use Rattle.rtds_trace.proofs.Gathered.{gathered-zero, gathered-suc, gathered-none, gathered-rest, push_behind, printed_below-zero, printed_below-suc}
+use Rattle.rtds_trace.proofs.Rows.{row_none, row_some, started_by, blocked_by}
 use Rattle.release_file.proofs.Rows.{ordered}
-use Rattle.rtds_sim.proofs.Pushing.{Keeps, After, after_same, after_more, after_end}
+use Rattle.rtds_trace.proofs.Pushing.{Keeps, After, after_same, after_more, after_end}
 
 -- the holders of the cores below c are the new ones
 abbrev upto : ℕ → (ℕ → Option ℕ) → (ℕ → Option ℕ) → ℕ → Option ℕ
@@ -59,103 +55,80 @@ upto_new c new old = ap (λ (b : Bool). cond b (new c) (old c)) (lt-ltb c (suc c
 upto_all : (c : ℕ) (new old : ℕ → Option ℕ) (d : ℕ) → d < c → upto c new old d ≡ new d
 upto_all c new old d l = ap (λ (b : Bool). cond b (new d) (old d)) (lt-ltb d c l)
 
--- when a run or a stop may come
-abbrev MaySwitch : (ℕ → Bool) → (ℕ → Bool) → Option ℕ → What → Type 0
-MaySwitch started blocked old (Run v) = (started v ≡ true) × (blocked v ≡ false)
-MaySwitch started blocked old Stop = is_none old ≡ false
-MaySwitch started blocked old _ = ⊥
+-- when a core may go to a VCPU, and when to none
+abbrev MayGo : (ℕ → Bool) → (ℕ → Bool) → Option ℕ → Option ℕ → Type 0
+MayGo started blocked old (Some v) = (started v ≡ true) × (blocked v ≡ false)
+MayGo started blocked old None = is_none old ≡ false
 
--- what a core tells: nothing, where its holder stays, or a run or a stop
+-- what a core tells: nothing, where its holder stays, or that it goes to the new one
 record Tells (sys : SystemView) (x c : ℕ) (started blocked : ℕ → Bool) (old new : Option ℕ) (o : Option Event) : Type 0
   where
-    what : What
-    is : o ≡ Some (on_at c x what)
-    may : MaySwitch started blocked old what
-    runs : runner what ≡ new
-    known : is_known sys c what ≡ true
-    on_it : stands_on sys c (named what) ≡ true
+    is : o ≡ Some (on_at c x (going_to new))
+    may : MayGo started blocked old new
+    known : is_known sys c (going_to new) ≡ true
+    on_it : stands_on sys c (named (going_to new)) ≡ true
 
 abbrev Goes : SystemView → ℕ → ℕ → (ℕ → Bool) → (ℕ → Bool) → Option ℕ → Option ℕ → Option Event → Type 0
 Goes sys x c started blocked old new o = ((o ≡ None) × (old ≡ new)) ⊎ Tells sys x c started blocked old new o
 
+-- it says who has the core, and nothing else of a VCPU
+record SaysHolder (o : Option ℕ) : Type 0 where
+  no_end : is_end (going_to o) ≡ false
+  no_start : (v : ℕ) → is_start_of v (going_to o) ≡ false
+  no_change : (v : ℕ) → is_change_of v (going_to o) ≡ false
+  is_one : is_switch (going_to o) ≡ true
+  runs : runner (going_to o) ≡ o
+
+says_holder : (o : Option ℕ) → SaysHolder o
+says_holder None =
+    record { no_end = refl; no_start = λ v. refl; no_change = λ v. refl; is_one = refl; runs = refl }
+says_holder (Some u) =
+    record { no_end = refl; no_start = λ v. refl; no_change = λ v. refl; is_one = refl; runs = refl }
+
 module _ (sys : SystemView) (x : ℕ) (in_limit : moment_of_slot x ≤ LAST_MOMENT) (s b : ℕ → Bool) where
   may_is : (es : List Event) (m : ℕ) (h : ℕ → Option ℕ) (c : ℕ) → c < length sys.cores → After sys es m s b h
-      → (what : What) → MaySwitch s b (h c) what → what_fault es (length es) c what ≡ None
-  may_is es m h c l a (Run v) may =
+      → (new : Option ℕ) → MayGo s b (h c) new → what_fault es (length es) c (going_to new) ≡ None
+  may_is es m h c l a (Some v) may =
       ap (λ (q : Bool). fault_if (not q) (NotStarted (row_of (length es)))
       (fault_if (is_blocked es (length es) v) (NotRunnable (row_of (length es))) None)) (a.started_is v ∙ may.0)
       ∙ ap (λ (q : Bool). fault_if q (NotRunnable (row_of (length es))) None) (a.blocked_is v ∙ may.1)
-  may_is es m h c l a Stop may =
+  may_is es m h c l a None may =
       ap (λ (q : Bool). fault_if q (CoreIdle (row_of (length es))) None) (ap is_none (a.held_is c l) ∙ may)
-  may_is es m h c l a (Start v) may = absurd may
-  may_is es m h c l a (Wake v) may = absurd may
-  may_is es m h c l a (Block v) may = absurd may
-  may_is es m h c l a End may = absurd may
 
-  switched : (es : List Event) (old new : ℕ → Option ℕ) (c : ℕ) → c < length sys.cores → (what : What)
-      → MaySwitch s b (old c) what → runner what ≡ new c → is_known sys c what ≡ true
-      → stands_on sys c (named what) ≡ true
-      → After sys es (moment_of_slot x) s b (upto c new old)
-      → After sys (es ++ on_at c x what ∷ []) (moment_of_slot x) s b (upto (suc c) new old)
-  switched es old new c l what may runs known on_it a =
-      let old_here : upto c new old c ≡ old c = upto_here c new old in
+  switched : (es : List Event) (old new : ℕ → Option ℕ) (c : ℕ) (o : Option Event) → c < length sys.cores
+      → Tells sys x c s b (old c) (new c) o → After sys es (moment_of_slot x) s b (upto c new old)
+      → After sys (es ++ on_at c x (going_to (new c)) ∷ []) (moment_of_slot x) s b (upto (suc c) new old)
+  switched es old new c o l t a =
+      let what : What = going_to (new c) in
+      let says : SaysHolder (new c) = says_holder (new c) in
       let k : Keeps sys es (on_at c x what)
       = record {
         in_limit = in_limit;
         in_time = a.in_time;
-        known = known;
-        on_core = on_it;
+        known = t.known;
+        on_core = t.on_it;
         may =
-            may_is es (moment_of_slot x) (upto c new old) c l a what
-            (subst (λ (o : Option ℕ). MaySwitch s b o what) (sym old_here) may);
+            may_is es (moment_of_slot x) (upto c new old) c l a (new c)
+            (subst (λ (h : Option ℕ). MayGo s b h (new c)) (sym (upto_here c new old)) t.may);
       } in
       after_same sys (es ++ on_at c x what ∷ []) (moment_of_slot x) (moment_of_slot x) (λ v. is_start_of v what || s v)
       s (λ v. cond (is_change_of v what) (blocks_it what) (b v)) b
       (λ d. cond ((c == d) && is_switch what) (runner what) (upto c new old d)) (upto (suc c) new old) (omega arith)
-      (λ v. no_start v what may) (λ v. no_change v what may) (λ d p. next d what may runs (cases_eq d c))
-      (after_more sys es (moment_of_slot x) s b (upto c new old) (on_at c x what) a k (no_end what may))
+      (λ v. ap (λ (q : Bool). q || s v) (says.no_start v))
+      (λ v. ap (λ (q : Bool). cond q (blocks_it what) (b v)) (says.no_change v)) (λ d p. next d (cases_eq d c))
+      (after_more sys es (moment_of_slot x) s b (upto c new old) (on_at c x what) a k says.no_end)
     where
-      no_end : (what : What) → MaySwitch s b (old c) what → is_end what ≡ false
-      no_end (Run v) may = refl
-      no_end Stop may = refl
-      no_end (Start v) may = absurd may
-      no_end (Wake v) may = absurd may
-      no_end (Block v) may = absurd may
-      no_end End may = absurd may
-
-      no_start : (v : ℕ) (what : What) → MaySwitch s b (old c) what → (is_start_of v what || s v) ≡ s v
-      no_start v (Run w) may = refl
-      no_start v Stop may = refl
-      no_start v (Start w) may = absurd may
-      no_start v (Wake w) may = absurd may
-      no_start v (Block w) may = absurd may
-      no_start v End may = absurd may
-
-      no_change : (v : ℕ) (what : What) → MaySwitch s b (old c) what
-          → cond (is_change_of v what) (blocks_it what) (b v) ≡ b v
-      no_change v (Run w) may = refl
-      no_change v Stop may = refl
-      no_change v (Start w) may = absurd may
-      no_change v (Wake w) may = absurd may
-      no_change v (Block w) may = absurd may
-      no_change v End may = absurd may
-
-      is_one : (what : What) → MaySwitch s b (old c) what → is_switch what ≡ true
-      is_one (Run v) may = refl
-      is_one Stop may = refl
-      is_one (Start v) may = absurd may
-      is_one (Wake v) may = absurd may
-      is_one (Block v) may = absurd may
-      is_one End may = absurd may
-
-      next : (d : ℕ) (what : What) → MaySwitch s b (old c) what → runner what ≡ new c → (d ≡ c) ⊎ (d ≡ c → ⊥)
-          → cond ((c == d) && is_switch what) (runner what) (upto c new old d) ≡ upto (suc c) new old d
-      next d what may runs (inl e) =
-          ap (λ (q : Bool). cond q (runner what) (upto c new old d))
-          (and_from (c == d) (is_switch what) (eq-eqb c d (sym e)) (is_one what may))
-          ∙ (runs ∙ (sym (upto_new c new old) ∙ ap (upto (suc c) new old) (sym e)))
-      next d what may runs (inr ne) =
-          ap (λ (q : Bool). cond (q && is_switch what) (runner what) (upto c new old d)) (ne_eqb c d (λ e. ne (sym e)))
+      next : (d : ℕ) → (d ≡ c) ⊎ (d ≡ c → ⊥)
+          → cond ((c == d) && is_switch (going_to (new c))) (runner (going_to (new c))) (upto c new old d)
+          ≡ upto (suc c) new old d
+      next d (inl e) =
+          let says : SaysHolder (new c) = says_holder (new c) in
+          ap (λ (q : Bool). cond q (runner (going_to (new c))) (upto c new old d))
+          (and_from (c == d) (is_switch (going_to (new c))) (eq-eqb c d (sym e)) says.is_one)
+          ∙ (says.runs ∙ (sym (upto_new c new old) ∙ ap (upto (suc c) new old) (sym e)))
+      next d (inr ne) =
+          ap (λ (q : Bool). cond (q && is_switch (going_to (new c))) (runner (going_to (new c))) (upto c new old d))
+          (ne_eqb c d (λ e. ne (sym e)))
           ∙ upto_next c new old d ne
 
   -- all cores in turn
@@ -187,14 +160,21 @@ module _ (sys : SystemView) (x : ℕ) (in_limit : moment_of_slot x ≤ LAST_MOME
         | inr t ↦
             subst (λ (o : Option Event). After sys (push_some (es ++ gathered f c) o) (moment_of_slot x) s b
             (upto (suc c) new old)) (sym t.is)
-            (switched (es ++ gathered f c) old new c l t.what t.may t.runs t.known t.on_it
-            (phase f old new goes es a c (omega arith)))
+            (switched (es ++ gathered f c) old new c (f c) l t (phase f old new goes es a c (omega arith)))
       ])
 
 -- the core of a VCPU
 pub record OnCore (sys : SystemView) (v : ℕ) : Type 0 where
   pub is_core : core_of (part_at sys v).parent < length sys.cores
   pub child : is_child sys (Core (core_of (part_at sys v).parent)) v ≡ true
+
+core_in : (sys : SystemView) → IsSystem sys → (v : ℕ) → v < length sys.parts
+    → core_of (part_at sys v).parent < length sys.cores
+core_in sys is v l = go (part_at sys v).parent (is.parents v l)
+  where
+    go : (p : Parent) → Stands sys v p → core_of p < length sys.cores
+    go (on_core c) s = s
+    go (on_part q) s = omega (arith, is.some_core)
 
 pub vcpu_core : (sys : SystemView) → IsSystem sys → (v : ℕ) → is_vcpu sys v ≡ true → OnCore sys v
 vcpu_core sys is v h =
@@ -498,14 +478,13 @@ module _ (sys : SystemView) (system : IsSystem sys) (rows : List Row) (workload 
     stop_goes x k c l None e true f = absurd (false≢true f)
     stop_goes x k c l (Some v) e true f =
         let q : is_blocked_one rows x (Before x c) ≡ true = ap (is_blocked_one rows x) e ∙ f in
-        inr (record {
-          what = Stop;
+        inr (subst (λ (o : Option ℕ). Tells sys x c (started_after rows k) (blocked_after rows k) (Before x c) o
+        (stop_at rows runs x c)) (sym (ap (λ (b : Bool). cond b None (Before x c)) q)) (record {
           is = ap (λ (b : Bool). cond b (Some (on_at c x Stop)) None) q;
           may = ap is_none e;
-          runs = sym (ap (λ (b : Bool). cond b None (Before x c)) q);
           known = and_from (nat_lt c (length sys.cores)) true (lt-ltb c (length sys.cores) l) refl;
           on_it = refl;
-        })
+        }))
 
     -- no VCPU that is blocked at x is left with its core
     left_awake : (x c v : ℕ) → is_blocked_at rows v x ≡ true → holds (Left x c) v ≡ false
@@ -532,13 +511,11 @@ module _ (sys : SystemView) (system : IsSystem sys) (rows : List Row) (workload 
         let q = and_parts (nat_lt v (length sys.parts)) (is_child sys (Core c) v) p.0 in
         let r = and_parts (is_started_at rows v x) (not (is_blocked_at rows v x)) p.1 in
         record {
-          what = Run v;
           is = refl;
           may = (
             sym (started_by rows v x j taken) ∙ r.0,
             sym (blocked_by rows v x j taken) ∙ not-true (is_blocked_at rows v x) r.1,
           );
-          runs = refl;
           known =
               and_from (nat_lt c (length sys.cores)) (is_vcpu sys v) (lt-ltb c (length sys.cores) l)
               (child_vcpu sys c v (ltb-true v (length sys.parts) q.0) q.1);
@@ -552,10 +529,8 @@ module _ (sys : SystemView) (system : IsSystem sys) (rows : List Row) (workload 
     switch_goes x j c l lx taken None None e = inl (refl, refl)
     switch_goes x j c l lx taken (Some u) None e =
         inr (record {
-          what = Stop;
           is = refl;
           may = refl;
-          runs = refl;
           known = and_from (nat_lt c (length sys.cores)) true (lt-ltb c (length sys.cores) l) refl;
           on_it = refl;
         })

@@ -5,11 +5,12 @@ use Rattle.slot_model.specs.Bound.{DemandFits}
 use Rattle.tree_model.specs.declared.place.Place.TheVariants.{Core}
 use Rattle.tree_model.specs.View.{SystemView}
 use Rattle.tree_model.specs.System.{part_at}
-use Rattle.tree_model.specs.Tree.{is_child, budget_at, server_tasks}
+use Rattle.tree_model.specs.Tree.{is_child, budget_at, run_at, server_tasks}
 use Rattle.trace_file.specs.declared.event.Event.{Event}
 use Rattle.trace_file.specs.Periods.{begins, count_between, IsOver}
 use Rattle.release_file.specs.declared.workload.Wake.{Wake}
 use Rattle.release_file.specs.Workload.{is_started, start_of, is_blocked_at}
+use Rattle.rtds_model.specs.Rtds.{RtdsRun}
 
 -- a VCPU of core c that the workload starts
 pub record IsStartedOn (sys : SystemView) (rows : List Wake) (c v : ℕ) : Type 0 where
@@ -50,6 +51,16 @@ NeverOver sys budgets rows run =
     (v k : ℕ) → v < length sys.parts → (part_at sys v).extra ≡ false →
     slots_got (λ x. holds (held run x) v) (part_at sys v).period
     (start_of rows v) k ≤ budget_at budgets v
+
+-- what each run over n slots gives: the budgets, on a core whose servers pass the test and whose
+-- VCPUs never block, whenever each starts; and over any workload no more to one without extra time
+pub record RunsGive (sys : SystemView) (budgets : List ℕ) (rows : List Wake) (n : ℕ) : Type 0
+  where
+    pub gives : (runs : List (List (Option ℕ))) (c : ℕ) → RtdsRun sys budgets rows n runs →
+        c < length sys.cores → AlwaysRunnable sys rows c → ServersFit sys budgets c →
+        GivesBudgets sys budgets rows n c (run_at runs c)
+    pub never_over : (runs : List (List (Option ℕ))) (c : ℕ) → RtdsRun sys budgets rows n runs →
+        c < length sys.cores → NeverOver sys budgets rows (run_at runs c)
 
 -- no period in a trace is over
 abbrev pub NoneOver : SystemView → List ℕ → List Event → Type 0

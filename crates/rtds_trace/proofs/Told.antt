@@ -11,9 +11,8 @@ use Rattle.trace_file.specs.declared.event.What.TheVariants.{Run, Stop}
 use Rattle.trace_file.specs.Events.{event_at}
 use Rattle.release_file.specs.declared.workload.Wake.{Wake as Row}
 use Rattle.release_file.specs.Workload.{row_at}
-use Rattle.rtds_sim.specs.Printed.{push_some, gathered, event_of, on_at, on_core_at, switch_to, holder_before, is_blocked_one, holder_left, stop_at, row_event_at, switch_at, printed_at, printed_below}
-use Rattle.rtds_sim.proofs.Gathered.{gathered-zero, gathered-suc}
-use Rattle.rtds_sim.proofs.Visits.{printed_below-zero, printed_below-suc}
+use Rattle.rtds_trace.specs.Printed.{push_some, gathered, event_of, on_at, on_core_at, switch_to, holder_before, is_blocked_one, holder_left, stop_at, row_event_at, switch_at, printed_at, printed_below}
+use Rattle.rtds_trace.proofs.Gathered.{gathered-zero, gathered-suc, printed_below-zero, printed_below-suc}
 
 -- each event of a list
 abbrev pub AllOf : (Event → Type 0) → List Event → Type 0

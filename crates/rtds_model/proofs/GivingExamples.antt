@@ -1,10 +1,8 @@
--- What RTDS gives and never gives, and when it does not run, over the host of the worked runs. A
--- definition that says less breaks one of these.
+-- What RTDS gives and never gives, over the host of the worked runs. A definition that says less
+-- breaks one of these.
 use Rattle.std.proofs.Common.{◌≡◌, ℕ, zero, suc, ◌<◌, ◌≤◌, Bool, true, false, ◌&&◌, Option, Some, None, if◌then◌else◌, List, [], ◌∷◌, length, refl, arith, lit<, lit≤}
 use Rattle.csv_rows.specs.Last.{last_below}
 use Rattle.slot_model.specs.Slots.{sum_below}
-use Rattle.slot_model.specs.declared.sched.Sched.{Sched}
-use Rattle.slot_model.specs.declared.sched.Sched.TheVariants.{Edf, Rm, Dm}
 use Rattle.tree_model.specs.declared.place.Place.TheVariants.{Core as on_core_place}
 use Rattle.tree_model.specs.View.{SystemView}
 use Rattle.tree_model.specs.Tree.{is_child}
@@ -13,12 +11,9 @@ use Rattle.trace_file.specs.Periods.{IsOver}
 use Rattle.release_file.specs.declared.workload.Wake.{Wake}
 use Rattle.release_file.specs.declared.workload.WakeKind.TheVariants.{Start, Block}
 use Rattle.release_file.specs.Workload.{is_of, is_by, blocks}
-use Rattle.rtds_sim.specs.declared.fault.RtdsFault.TheVariants.{NotRtds, NoMemory}
 use Rattle.slot_model.specs.Run.{held, holds}
-use Rattle.rtds_sim.specs.Rtds.{is_rtds}
-use Rattle.rtds_sim.specs.Fault.{AllRtds, IsFirstOther, IsRtdsFault}
-use Rattle.rtds_sim.specs.Giving.{slots_got, IsStartedOn, AlwaysRunnable, ServersFit, AlwaysServed, GivesBudgets, NeverOver, NoneOver}
-use Rattle.rtds_sim.proofs.Examples.{host, budgets, row, both_start, B}
+use Rattle.rtds_model.specs.Giving.{slots_got, IsStartedOn, AlwaysRunnable, ServersFit, AlwaysServed, GivesBudgets, NeverOver, NoneOver}
+use Rattle.rtds_model.proofs.Examples.{host, budgets, row, both_start, B}
 
 -- B has no extra time and a budget of 4 slots in 10
 abbrev five_of_b : List (Option ℕ)
@@ -52,51 +47,6 @@ a_starts_there = record { is_part = lit< tt; on_core = refl; started = refl }
 no_slot_does_not_give_the_budgets : GivesBudgets (host false) budgets both_start 10 0 [] → ⊥
 unfolding sum_below last_below
 no_slot_does_not_give_the_budgets gives = let some : 3 ≤ 0 = gives 0 0 a_starts_there (lit≤ tt) in omega arith
-
--- a core without a supply and under earliest deadline first is one of RTDS; with a supply, or under
--- a fixed priority, it is none
-abbrev one_core : Sched → Option (ℕ × ℕ) → SystemView
-one_core sched supply = record { cores = record { name = 99 ∷ []; sched = sched; supply = supply } ∷ []; parts = [] }
-
-cores_of_rtds : (is_rtds (one_core Edf None) 0 ≡ true)
-    × (is_rtds (one_core Edf (Some (10, 5))) 0 ≡ false) × (is_rtds (one_core Edf (Some (10, 10))) 0 ≡ false)
-    × (is_rtds (one_core Rm None) 0 ≡ false) × (is_rtds (one_core Dm None) 0 ≡ false)
-    × (is_rtds (one_core Rm (Some (10, 5))) 0 ≡ false)
-cores_of_rtds = (refl, refl, refl, refl, refl, refl)
-
--- each core by itself: the second is under a fixed priority
-abbrev edf_and_rm : SystemView
-edf_and_rm =
-    record {
-      cores =
-          record { name = 99 ∷ []; sched = Edf; supply = None }
-          ∷ record { name = 100 ∷ []; sched = Rm; supply = None } ∷ [];
-      parts = [];
-    }
-
-second_core_is_none : (is_rtds edf_and_rm 0 ≡ true) × (is_rtds edf_and_rm 1 ≡ false)
-second_core_is_none = (refl, refl)
-
-the_second_is_the_first_other : IsFirstOther edf_and_rm 1
-the_second_is_the_first_other = record {
-  is_core = lit< tt;
-  other = refl;
-  before = one;
-}
-  where
-    one : (c : ℕ) → c < 1 → is_rtds edf_and_rm c ≡ true
-    one zero h = refl
-    one (suc c) h = absurd (omega arith)
-
--- the first core that is not full or not under earliest deadline first is told, and memory runs out
--- only where there is none
-the_faults_of_a_run : (sys : SystemView) (c : ℕ)
-    → (IsRtdsFault sys (NotRtds c) → IsFirstOther sys c) × (IsRtdsFault sys NoMemory → AllRtds sys (length sys.cores))
-the_faults_of_a_run sys c = (λ h. h, λ h. h)
-
-before_the_first_other_core_there_is_none : (sys : SystemView) (c b : ℕ) → IsFirstOther sys c → b < c
-    → is_rtds sys b ≡ true
-before_the_first_other_core_there_is_none sys c b other before = other.before b before
 
 -- A and B start and never block, both at one slot or each at one of its own
 abbrev two_slots : List Wake

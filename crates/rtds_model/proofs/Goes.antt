@@ -3,8 +3,8 @@ use Rattle.std.proofs.Common.{◌≡◌, ℕ, ◌+◌, ◌<◌, ◌≤◌, Bool,
 use Rattle.std.proofs.lemmas.Bool.Decides.{nat_tests}
 use Rattle.rtds_queues.specs.Keys.{goes_first}
 use Rattle.rtds_queues.proofs.Order.{first_by_level}
-use Rattle.rtds_sim.specs.Demand.{later}
-use Rattle.rtds_sim.proofs.Windows.{later_few, later_itself, later_in_turn}
+use Rattle.rtds_model.specs.Demand.{later}
+use Rattle.rtds_model.proofs.Windows.{later_few, later_itself, later_in_turn}
 
 -- of those that end at once the one that stands first
 first_by_end : (l d p l' d' p' : ℕ) → l ≡ l' → d < d' + later p p' → goes_first l d p l' d' p' ≡ true

@@ -14,9 +14,9 @@ use Rattle.trace_file.specs.Periods.{begins, count_between}
 use Rattle.release_file.specs.declared.workload.Wake.{Wake}
 use Rattle.tree_model.specs.Plans.{IsPlan}
 use Rattle.release_file.specs.Workload.{start_of}
-use Rattle.rtds_sim.specs.Rtds.{period_number, used, can_run, is_eligible, CoreRun}
-use Rattle.rtds_sim.specs.Giving.{NeverOver}
-use Rattle.rtds_sim.proofs.Taking.{none_between}
+use Rattle.rtds_model.specs.Rtds.{period_number, used, can_run, is_eligible, CoreRun}
+use Rattle.rtds_model.specs.Giving.{NeverOver}
+use Rattle.rtds_model.proofs.Counts.{none_between}
 
 module _ (sys : SystemView) (budgets : List ℕ) (plan : IsPlan sys budgets) (rows : List Wake) (n c : ℕ)
     (run : List (Option ℕ)) (is : CoreRun sys budgets rows n c run) where

@@ -1,5 +1,5 @@
 -- The trace of a run: what its VCPUs do on their cores, slot by slot.
-use Rattle.std.specs.Prelude.{◌≡◌, ℕ, zero, suc, ◌*◌, ◌==◌, Bool, false, if◌then◌else◌, List, [], ◌∷◌, ◌++◌, length, Option, Some, None}
+use Rattle.std.specs.Prelude.{◌≡◌, ℕ, zero, suc, ◌<◌, ◌≤◌, ◌*◌, ◌==◌, Bool, true, false, if◌then◌else◌, List, [], ◌∷◌, ◌++◌, length, Option, Some, None}
 use Rattle.slot_model.specs.Run.{held, holds}
 use Rattle.tree_model.specs.declared.place.Parent.{Parent}
 use Rattle.tree_model.specs.declared.place.Parent.TheVariants.{Core as on_core, Part as on_part}
@@ -13,7 +13,7 @@ use Rattle.release_file.specs.declared.workload.Wake.{Wake as Row}
 use Rattle.release_file.specs.declared.workload.WakeKind.{WakeKind}
 use Rattle.release_file.specs.declared.workload.WakeKind.TheVariants.{Start as ToStart, Wake as ToWake, Block as ToBlock}
 use Rattle.release_file.specs.Workload.{row_at, is_blocked_at}
-use Rattle.rtds_sim.specs.Rtds.{RtdsRun}
+use Rattle.rtds_model.specs.Rtds.{RtdsRun}
 
 -- the moment of the trace at which a slot begins: slots are microseconds, moments nanoseconds
 abbrev pub moment_of_slot : ℕ → ℕ
@@ -28,6 +28,12 @@ push_some xs (Some y) = xs ++ y ∷ []
 unfoldable pub gathered : {X : Type 0} → (ℕ → Option X) → ℕ → List X
 gathered f zero = []
 gathered f (suc n) = push_some (gathered f n) (f n)
+
+-- the first k rows are those before slot x
+pub record AreBefore (rows : List Row) (k x : ℕ) : Type 0 where
+  pub in_rows : k ≤ length rows
+  pub past : (i : ℕ) → i < k → (row_at rows i).at < x
+  pub to_come : (i : ℕ) → k ≤ i → i < length rows → x ≤ (row_at rows i).at
 
 -- the core on which a part of this parent stands, and a filler, 0, where the parent is a part
 abbrev pub core_of : Parent → ℕ
@@ -78,11 +84,18 @@ row_event_at sys rows x i =
     if (row_at rows i).at == x then Some (event_of sys (row_at rows i)) else None
 
 -- and then a run of the VCPU of slot x, where it is not the one that has the core, or a stop, where
--- the slot is idle and one has the core
+-- the slot is idle and one has the core: a core goes to a VCPU or to none, unless it stays
+abbrev pub going_to : Option ℕ → What
+going_to None = Stop
+going_to (Some v) = Run v
+
+abbrev pub stays : Option ℕ → Option ℕ → Bool
+stays None None = true
+stays (Some u) None = false
+stays holder (Some v) = holds holder v
+
 abbrev pub switch_to : Option ℕ → Option ℕ → Option What
-switch_to None None = None
-switch_to (Some u) None = Some Stop
-switch_to holder (Some v) = if holds holder v then None else Some (Run v)
+switch_to holder next = if stays holder next then None else Some (going_to next)
 
 abbrev pub on_core_at : ℕ → ℕ → Option What → Option Event
 on_core_at c x None = None

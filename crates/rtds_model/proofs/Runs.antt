@@ -13,7 +13,7 @@ use Rattle.tree_model.specs.View.{SystemView}
 use Rattle.tree_model.specs.System.{part_at}
 use Rattle.tree_model.specs.Tree.{is_child, budget_at, run_at}
 use Rattle.release_file.specs.declared.workload.Wake.{Wake}
-use Rattle.rtds_sim.specs.Rtds.{used, level_at, deadline_at, period_from, can_run, is_eligible, goes_before, RtdsEntry, CoreRun, RtdsRun}
+use Rattle.rtds_model.specs.Rtds.{used, level_at, deadline_at, period_from, can_run, is_eligible, goes_before, RtdsEntry, CoreRun, RtdsRun}
 use Rattle.rtds_queues.specs.Keys.{goes_first}
 use Rattle.rtds_queues.proofs.Order.{first_itself, first_total, first_in_turn}
 

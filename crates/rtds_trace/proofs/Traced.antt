@@ -29,16 +29,16 @@ use Rattle.release_file.specs.declared.workload.Wake.{Wake as Row}
 use Rattle.release_file.specs.declared.workload.WakeKind.{WakeKind}
 use Rattle.release_file.specs.declared.workload.WakeKind.TheVariants.{Start as ToStart, Wake as ToWake, Block as ToBlock}
 use Rattle.release_file.specs.Workload.{row_at, is_of, is_start, starts, is_started, is_blocked_at, start_of, IsWorkload}
-use Rattle.rtds_sim.specs.Rtds.{RtdsRun}
-use Rattle.rtds_sim.specs.Printed.{moment_of_slot, core_of, what_of, event_of, on_at, printed_below, printed}
-use Rattle.rtds_sim.specs.Giving.{slots_got, AlwaysServed, NoneOver}
-use Rattle.rtds_sim.proofs.Taking.{start_is}
-use Rattle.rtds_sim.proofs.Keeping.{OnCore, vcpu_core, holder_below, started_below, blocked_below}
-use Rattle.rtds_sim.proofs.Pushing.{started_more}
-use Rattle.rtds_sim.proofs.Starts.{started_from}
-use Rattle.rtds_sim.proofs.Told.{AllOf, all_one, all_append, told_below, Behind, behind}
-use Rattle.rtds_sim.proofs.Giving.{gives_budgets}
-use Rattle.rtds_sim.proofs.Over.{never_over}
+use Rattle.rtds_model.specs.Rtds.{RtdsRun}
+use Rattle.rtds_trace.specs.Printed.{moment_of_slot, core_of, what_of, event_of, on_at, printed_below, printed}
+use Rattle.rtds_model.specs.Giving.{slots_got, AlwaysServed, NoneOver}
+use Rattle.rtds_model.proofs.Starts.{start_is, started_from}
+use Rattle.rtds_trace.proofs.Keeping.{OnCore, vcpu_core, holder_below, started_below, blocked_below}
+use Rattle.rtds_trace.proofs.Pushing.{started_more}
+use Rattle.rtds_trace.proofs.Told.{AllOf, all_one, all_append, told_below, Behind, behind}
+use Rattle.rtds_model.proofs.Setting.{setting}
+use Rattle.rtds_model.proofs.Giving.{gives_budgets}
+use Rattle.rtds_model.proofs.Over.{never_over}
 
 -- a count of moments that say what their slots say
 scaled_cond : (b : Bool) → cond {A = ℕ} b 1000 0 ≡ cond {A = ℕ} b 1 0 * 1000
@@ -315,7 +315,7 @@ module _ (sys : SystemView) (system : IsSystem sys) (budgets : List ℕ) (plan :
       = omega (arith, begins_is v f (suc k) s, judged, end_is) in
       let enough : budget_at budgets v
       ≤ slots_got (λ y. holds (held (run_at runs c) y) v) (part_at sys v).period (start_of rows v) k
-      = gives_budgets sys budgets plan rows workload n c (run_at runs c) (is.cores c s.core.is_core)
+      = gives_budgets (setting sys budgets plan rows workload n c (run_at runs c)) (is.cores c s.core.is_core)
       (served.runnable c s.core.is_core) (served.fit c s.core.is_core) v k
       (record { is_part = h.period.is_part; on_core = s.core.child; started = s.started }) ends in
       absurd (omega (arith, h.short, got_whole v f k s ends, enough))

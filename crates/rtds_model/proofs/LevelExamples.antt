@@ -5,15 +5,11 @@ use Rattle.csv_rows.specs.Last.{last_below}
 use Rattle.slot_model.specs.Slots.{sum_below}
 use Rattle.tree_model.specs.declared.place.Parent.TheVariants.{Core as on_core}
 use Rattle.tree_model.specs.View.{SystemView}
-use Rattle.trace_file.specs.declared.event.Event.{Event}
-use Rattle.trace_file.specs.declared.event.What.{What}
-use Rattle.trace_file.specs.declared.event.What.TheVariants.{Start as Starts, Block as Blocks, Run, Stop, End}
 use Rattle.release_file.specs.declared.workload.Wake.{Wake}
 use Rattle.release_file.specs.declared.workload.WakeKind.TheVariants.{Start, Block}
-use Rattle.rtds_sim.specs.Rtds.{CoreRun, level_at, goes_before}
-use Rattle.rtds_sim.specs.Printed.{gathered, printed_below, printed}
-use Rattle.rtds_sim.proofs.Runs.{better, choice, chosen, is_run}
-use Rattle.rtds_sim.proofs.Examples.{server, core, row, both_start, A, B}
+use Rattle.rtds_model.specs.Rtds.{CoreRun, level_at, goes_before}
+use Rattle.rtds_model.proofs.Runs.{better, choice, chosen, is_run}
+use Rattle.rtds_model.proofs.Examples.{server, core, row, both_start, A, B}
 
 abbrev both_extra : SystemView
 both_extra = record { cores = core ∷ []; parts = server 65 1 true ∷ server 66 1 true ∷ [] }
@@ -71,35 +67,24 @@ a_catches_up_chosen : chosen both_extra ones a_starts_later 0 a_catches_up ≡ a
 unfolding chosen choice better last_below sum_below
 a_catches_up_chosen = refl
 
--- A on core 0 and B on core 1: at each slot first the cores stop, then come the rows as they stand
--- in the file, and then the cores run, each time core 0 before core 1
-abbrev core_each : SystemView
+-- A on core 0 and B on core 1, where each has what it has alone
+abbrev pub core_each : SystemView
 core_each =
     record {
       cores = core ∷ core ∷ [];
       parts = server 65 1 true ∷ record (server 66 1 true) { parent = on_core 1 } ∷ [];
     }
 
-abbrev on : ℕ → ℕ → What → Event
-on c at what = record { at = at; core = c; what = what }
-
-abbrev b_before_a : List Wake
+abbrev pub b_before_a : List Wake
 b_before_a = row 0 1 Start ∷ row 0 0 Start ∷ row 2 1 Block ∷ row 2 0 Block ∷ []
 
-abbrev a_twice : List (Option ℕ)
+abbrev pub a_twice : List (Option ℕ)
 a_twice = A ∷ A ∷ None ∷ []
 
-abbrev b_twice : List (Option ℕ)
+abbrev pub b_twice : List (Option ℕ)
 b_twice = B ∷ B ∷ None ∷ []
 
 each_core_chosen : (chosen core_each ones b_before_a 0 a_twice ≡ a_twice)
     × (chosen core_each ones b_before_a 1 b_twice ≡ b_twice)
 unfolding chosen choice better last_below sum_below
 each_core_chosen = (refl, refl)
-
-each_core_printed : printed core_each b_before_a (a_twice ∷ b_twice ∷ []) 3
-    ≡ on 1 0 (Starts 1) ∷ on 0 0 (Starts 0) ∷ on 0 0 (Run 0) ∷ on 1 0 (Run 1)
-    ∷ on 0 2000 Stop ∷ on 1 2000 Stop ∷ on 1 2000 (Blocks 1) ∷ on 0 2000 (Blocks 0)
-    ∷ on 0 3000 End ∷ []
-unfolding printed_below gathered last_below
-each_core_printed = refl

@@ -8,14 +8,14 @@ use Rattle.std.proofs.lemmas.Option.{same_Some}
 use Rattle.slot_model.specs.Slots.{sum_below}
 use Rattle.slot_model.specs.Run.{held, holds}
 use Rattle.trace_file.specs.Periods.{begins, count_between}
-use Rattle.rtds_sim.specs.Rtds.{period_number}
-use Rattle.rtds_sim.specs.Demand.{later}
+use Rattle.rtds_model.specs.Rtds.{period_number}
+use Rattle.rtds_model.specs.Demand.{later}
 use Rattle.slot_model.proofs.Sums.{cond_at_most_one, sum_below-lt}
 use Rattle.slot_model.proofs.Runs.{back_to, holds-is}
 use Rattle.slot_model.proofs.FirstRuns.{none_some}
 use Rattle.trace_file.proofs.Counting.{between_none}
-use Rattle.rtds_sim.proofs.Counts.{between_split, between_at_most, between_zero, between_le, between_capped, all_counted}
-use Rattle.rtds_sim.proofs.Demands.{demand_of, last_demand, carry, quotient_is, demand_fits, whole_fits, last_demand-least, last_demand-own}
+use Rattle.rtds_model.proofs.Counts.{between_split, between_at_most, between_zero, between_le, between_capped, all_counted}
+use Rattle.rtds_model.proofs.Demands.{demand_of, last_demand, carry, quotient_is, demand_fits, whole_fits, last_demand-least, last_demand-own}
 
 pub holds-some : (o : Option ℕ) (j : ℕ) → o ≡ Some j → holds o j ≡ true
 holds-some None j e = absurd (none_some None j refl e)
@@ -75,8 +75,8 @@ pub record ServesByDeadline (tie : ℕ → ℕ → ℕ) (m n : ℕ) (period budg
 abbrev pub SteadyAreAble : (ℕ → ℕ) → (ℕ → Bool) → (ℕ → ℕ → Bool) → (ℕ → Bool) → Type 0
 SteadyAreAble start on able steady = (u x : ℕ) → on u ≡ true → steady u ≡ true → start u ≤ x → able u x ≡ true
 
-module _ (tie : ℕ → ℕ → ℕ) (m n : ℕ) (period budget start : ℕ → ℕ) (on : ℕ → Bool) (able : ℕ → ℕ → Bool)
-    (run : List (Option ℕ)) (serves : ServesByDeadline tie m n period budget start on able run) where
+module _ {tie : ℕ → ℕ → ℕ} {m n : ℕ} {period budget start : ℕ → ℕ} {on : ℕ → Bool} {able : ℕ → ℕ → Bool}
+    {run : List (Option ℕ)} (serves : ServesByDeadline tie m n period budget start on able run) where
   -- the slots from r on and before x that u has
   abbrev pub got : ℕ → ℕ → ℕ → ℕ
   got u r x = count_between (λ y. holds (held run y) u) r x

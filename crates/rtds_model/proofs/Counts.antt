@@ -1,7 +1,7 @@
 -- Slots between two moments: counts of those that pass, of several tests together, and of the VCPUs
 -- of a run.
-use Rattle.std.proofs.Common.{◌≡◌, ◌⊎◌, ℕ, zero, suc, min, ◌+◌, ◌-◌, ◌<◌, ◌≤◌, Bool, true, false, cond, ◌&&◌, List, Option, Some, None, ◌∙◌, ap, arith, subst, inl, inr, le-leb}
-use Rattle.std.proofs.lemmas.Bool.{cases_eq, cases_lt, cases_Bool, cond-true, cond-false}
+use Rattle.std.proofs.Common.{◌≡◌, ◌⊎◌, ℕ, zero, suc, min, leb, ◌+◌, ◌-◌, ◌<◌, ◌≤◌, Bool, true, false, cond, ◌&&◌, List, Option, Some, None, ◌∙◌, ap, arith, subst, inl, inr, le-leb}
+use Rattle.std.proofs.lemmas.Bool.{cases_eq, cases_lt, cases_Bool, cond-true, cond-false, lt-leb}
 use Rattle.slot_model.specs.Slots.{sum_below}
 use Rattle.slot_model.specs.Run.{held, holds}
 use Rattle.slot_model.proofs.Sums.{cond_at_most_one, sum_below-same, sum_below-none, sum_below-add, sum_below_one, get-le-sum_below}
@@ -178,3 +178,9 @@ few_counted run m a (suc c) l = elim (cases_eq a (suc c)) [
     one_holder (held run c) m,
   )
 ]
+
+-- no slot lies between a moment and itself
+pub none_between : (p : ℕ → Bool) (x : ℕ) → count_between p x x ≡ 0
+none_between p x =
+    sum_below-same (λ y. cond (leb x y && p y) 1 0) (λ y. 0) x
+    (λ y l. ap (λ (b : Bool). cond {A = ℕ} (b && p y) 1 0) (lt-leb x y l)) ∙ sum_below-none x

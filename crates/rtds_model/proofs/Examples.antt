@@ -6,15 +6,11 @@ use Rattle.slot_model.specs.declared.sched.Sched.TheVariants.{Edf}
 use Rattle.tree_model.specs.declared.pinned_core.Core.{Core as CoreView}
 use Rattle.tree_model.specs.declared.place.Parent.TheVariants.{Core as on_core}
 use Rattle.tree_model.specs.View.{PartView, SystemView}
-use Rattle.trace_file.specs.declared.event.Event.{Event}
-use Rattle.trace_file.specs.declared.event.What.{What}
-use Rattle.trace_file.specs.declared.event.What.TheVariants.{Start as Starts, Wake as Wakes, Block as Blocks, Run, Stop, End}
 use Rattle.release_file.specs.declared.workload.Wake.{Wake}
 use Rattle.release_file.specs.declared.workload.WakeKind.{WakeKind}
 use Rattle.release_file.specs.declared.workload.WakeKind.TheVariants.{Start, Wake as ToWake, Block}
-use Rattle.rtds_sim.specs.Rtds.{CoreRun, level_at}
-use Rattle.rtds_sim.specs.Printed.{gathered, printed_below, printed}
-use Rattle.rtds_sim.proofs.Runs.{better, choice, chosen, is_run}
+use Rattle.rtds_model.specs.Rtds.{CoreRun, level_at}
+use Rattle.rtds_model.proofs.Runs.{better, choice, chosen, is_run}
 
 abbrev pub server : ℕ → ℕ → Bool → PartView
 server letter budget extra =
@@ -42,9 +38,6 @@ budgets = 3 ∷ 4 ∷ []
 abbrev pub row : ℕ → ℕ → WakeKind → Wake
 row at vcpu what = record { at = at; vcpu = vcpu; what = what }
 
-abbrev event : ℕ → What → Event
-event at what = record { at = at; core = 0; what = what }
-
 abbrev pub A : Option ℕ
 A = Some 0
 
@@ -56,7 +49,7 @@ abbrev pub both_start : List Wake
 both_start = row 0 0 Start ∷ row 0 1 Start ∷ []
 
 -- with extra time A has what B leaves
-abbrev with_extra : List (Option ℕ)
+abbrev pub with_extra : List (Option ℕ)
 with_extra = A ∷ A ∷ A ∷ B ∷ B ∷ B ∷ B ∷ A ∷ A ∷ A ∷ []
 
 with_extra_chosen : chosen (host true) budgets both_start 0 with_extra ≡ with_extra
@@ -71,46 +64,22 @@ extra_level : level_at (host true) budgets both_start with_extra 0 8 ≡ 1
 unfolding last_below sum_below
 extra_level = refl
 
-with_extra_printed : printed (host true) both_start (with_extra ∷ []) 10
-    ≡ event 0 (Starts 0) ∷ event 0 (Starts 1) ∷ event 0 (Run 0) ∷ event 3000 (Run 1) ∷ event 7000 (Run 0)
-    ∷ event 10000 End ∷ []
-unfolding printed_below gathered last_below
-with_extra_printed = refl
-
 -- without it the core is idle then
-abbrev without_extra : List (Option ℕ)
+abbrev pub without_extra : List (Option ℕ)
 without_extra = A ∷ A ∷ A ∷ B ∷ B ∷ B ∷ B ∷ None ∷ None ∷ None ∷ A ∷ A ∷ []
 
 without_extra_chosen : chosen (host false) budgets both_start 0 without_extra ≡ without_extra
 unfolding chosen choice better last_below sum_below
 without_extra_chosen = refl
 
-without_extra_printed : printed (host false) both_start (without_extra ∷ []) 12
-    ≡ event 0 (Starts 0) ∷ event 0 (Starts 1) ∷ event 0 (Run 0) ∷ event 3000 (Run 1) ∷ event 7000 Stop
-    ∷ event 10000 (Run 0) ∷ event 12000 End ∷ []
-unfolding printed_below gathered last_below
-without_extra_printed = refl
-
 -- A starts at 1 and blocks at 2, so its core stops and B, which starts there, gets it. A wakes at 4
 -- with two slots left and the earlier deadline.
-abbrev one_blocks : List Wake
+abbrev pub one_blocks : List Wake
 one_blocks = row 1 0 Start ∷ row 2 1 Start ∷ row 2 0 Block ∷ row 4 0 ToWake ∷ []
 
-abbrev blocked_run : List (Option ℕ)
+abbrev pub blocked_run : List (Option ℕ)
 blocked_run = None ∷ A ∷ B ∷ B ∷ A ∷ A ∷ B ∷ B ∷ None ∷ None ∷ None ∷ A ∷ []
 
 blocked_chosen : chosen (host false) budgets one_blocks 0 blocked_run ≡ blocked_run
 unfolding chosen choice better last_below sum_below
 blocked_chosen = refl
-
-blocked_printed : printed (host false) one_blocks (blocked_run ∷ []) 12
-    ≡ event 1000 (Starts 0) ∷ event 1000 (Run 0) ∷ event 2000 Stop ∷ event 2000 (Starts 1) ∷ event 2000 (Blocks 0)
-    ∷ event 2000 (Run 1) ∷ event 4000 (Wakes 0) ∷ event 4000 (Run 0) ∷ event 6000 (Run 1) ∷ event 8000 Stop
-    ∷ event 11000 (Run 0) ∷ event 12000 End ∷ []
-unfolding printed_below gathered last_below
-blocked_printed = refl
-
--- rows past the end are not printed, and a row at the end is none of them
-rows_past_the_end : printed (host false) one_blocks ((None ∷ []) ∷ []) 1 ≡ event 1000 End ∷ []
-unfolding printed_below gathered last_below
-rows_past_the_end = refl

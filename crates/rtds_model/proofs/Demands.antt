@@ -3,7 +3,7 @@ use Rattle.std.proofs.Common.{◌≡◌, ℕ, suc, min, max, ◌==◌, ◌+◌, 
 use Rattle.std.proofs.Math.Nat.{mul-le-mul_left, mul-le-mul_right}
 use Rattle.std.proofs.lemmas.Nat.{div-mul-add, le-div}
 use Rattle.std.proofs.lemmas.Bool.{cases_eq, cases_lt, cases_Bool, cond-true, cond-false}
-use Rattle.rtds_sim.specs.Demand.{deferrable_demand}
+use Rattle.rtds_model.specs.Demand.{deferrable_demand}
 
 -- what a server asks for in t slots by deadlines at their end where it never blocks, as a periodic
 -- task

@@ -1,13 +1,13 @@
 -- Where a VCPU starts: a workload starts it once, and from there on it is started.
 use Rattle.std.proofs.Common.{◌≡◌, ℕ, ◌<◌, ◌≤◌, true, false, ◌&&◌, List, length, Option, Some, None, refl, sym, ◌∙◌, ap, arith, subst, inl, inr, le-leb, leb-true, eqb-true}
 use Rattle.std.specs.Prelude.{is_some}
-use Rattle.std.proofs.lemmas.Bool.{cases_order, and_from, and_parts, both_ways, false≢true}
+use Rattle.std.proofs.lemmas.Bool.{cases_Bool, cases_order, and_from, and_parts, both_ways, false≢true}
 use Rattle.tree_model.specs.View.{SystemView}
 use Rattle.release_file.specs.declared.workload.Wake.{Wake as Row}
 use Rattle.release_file.specs.declared.workload.WakeKind.{WakeKind}
 use Rattle.release_file.specs.declared.workload.WakeKind.TheVariants.{Start, Wake, Block}
 use Rattle.release_file.specs.Workload.{row_at, last_row, is_of, is_start, starts, is_by, slot_of, is_started, is_started_at, start_of, may_follow, IsWorkload}
-use Rattle.csv_rows.proofs.Last.{FoundRow, some_found, some_row}
+use Rattle.csv_rows.proofs.Last.{FoundRow, some_found, some_row, last_is}
 
 -- from its start on a VCPU is started
 pub started_from : (rows : List Row) (v x : ℕ) → is_started rows v ≡ true → start_of rows v ≤ x
@@ -68,3 +68,31 @@ started_by sys rows is v x h =
         | inr l ↦ absurd (one_start sys rows is v j i l w.2.within there here)
       ]
     ]
+
+module _ (sys : SystemView) (rows : List Row) (workload : IsWorkload sys rows) where
+  -- a VCPU starts once
+  start_once : (k v n : ℕ) → k < n → n ≤ length rows → is_of v (row_at rows k) ≡ true → (row_at rows k).what ≡ Start
+      → last_row (starts v) rows n ≡ Some (row_at rows k)
+  start_once k v n l h of is =
+      last_is (starts v) (row_at rows) k n l
+      (and_from (is_of v (row_at rows k)) (is_start (row_at rows k).what) of (ap is_start is))
+      (λ j a b. elim (cases_Bool (starts v (row_at rows j))) [
+        | inr off ↦ off
+        | inl on ↦
+            let parts = and_parts (is_of v (row_at rows j)) (is_start (row_at rows j).what) on in
+            absurd
+            (twice (row_at rows j).what (last_row (is_of v) rows j) parts.1 (some_row (is_of v) (row_at rows) j k a of)
+            (subst (λ (u : ℕ). may_follow (last_row (is_of u) rows j) (row_at rows j).what ≡ true)
+            (eqb-true (row_at rows j).vcpu v parts.0) (workload.in_turn j (omega arith))))
+      ])
+    where
+      twice : (what : WakeKind) (o : Option Row) → is_start what ≡ true → is_some o ≡ true → may_follow o what ≡ true
+          → ⊥
+      twice Start None a b c = false≢true b
+      twice Start (Some r) a b c = false≢true c
+      twice Wake o a b c = false≢true a
+      twice Block o a b c = false≢true a
+
+  pub start_is : (k v : ℕ) → k < length rows → is_of v (row_at rows k) ≡ true → (row_at rows k).what ≡ Start
+      → start_of rows v ≡ (row_at rows k).at
+  start_is k v l of is = ap slot_of (start_once k v (length rows) l (omega arith) of is)

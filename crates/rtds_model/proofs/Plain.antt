@@ -11,7 +11,7 @@ use Rattle.tree_model.specs.View.{SystemView}
 use Rattle.tree_model.specs.System.{part_at}
 use Rattle.tree_model.specs.Tree.{is_child, budget_at, server_task, child_tasks}
 use Rattle.tree_model.proofs.NodeTasks.{child_tasks-suc}
-use Rattle.rtds_sim.proofs.Demands.{steady_demand, quotient_is}
+use Rattle.rtds_model.proofs.Demands.{steady_demand, quotient_is}
 
 -- a server asks for its budget in each whole period
 server_demand : (P B t : ℕ) → 1 ≤ P → cond (nat_le P (t + 0)) (((t + 0 - P) / P + 1) * B) 0 ≡ steady_demand P B t

@@ -1,0 +1,3 @@
+pub mod Rtds
+pub mod Demand
+pub mod Giving
