@@ -1,0 +1,5 @@
+pub mod Counted
+mod Stolen
+pub mod Halting
+pub mod Units
+pub mod Examples

@@ -1,0 +1,3 @@
+pub mod Stolen
+pub mod Halting
+pub mod Units

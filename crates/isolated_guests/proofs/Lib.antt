@@ -1,0 +1,9 @@
+mod Stolen
+pub mod Spared
+mod InTrace
+mod Fewer
+pub mod Short
+pub mod Kept
+pub mod Answered
+mod Traces
+mod Examples

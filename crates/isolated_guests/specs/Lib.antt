@@ -1,0 +1,6 @@
+pub mod Spared
+pub mod Short
+pub mod Guests
+pub mod Answered
+pub mod Traces
+pub mod Existence
