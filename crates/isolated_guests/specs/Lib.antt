@@ -3,4 +3,3 @@ pub mod Short
 pub mod Guests
 pub mod Answered
 pub mod Traces
-pub mod Existence

@@ -1,5 +1,0 @@
-mod Quotients
-mod Demands
-mod Requests
-mod Passing
-mod Examples
