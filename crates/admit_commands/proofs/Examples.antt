@@ -18,6 +18,7 @@ use Rattle.tree_model.specs.Admission.{Admitted, FirstRefusal}
 use Rattle.tree_model.specs.declared.plan.Refusal.{Refusal}
 use Rattle.tree_model.specs.declared.plan.Refusal.TheVariants.{Overfull, Wide as NodeWide}
 use Rattle.tree_model.proofs.Unique.{never_both}
+use Rattle.compose_tree.specs.Keeping.{Keeping}
 use Rattle.compose_tree.specs.Truth.{IsTight, RefusalHolds}
 use Rattle.miss_witness.specs.declared.replay.Replay.{Replay}
 use Rattle.miss_witness.specs.Defeat.{Defeats}
@@ -41,17 +42,18 @@ use Rattle.rt_report.specs.Check.{check_text}
 use Rattle.cert_verify.specs.declared.flaw.Flaw.{Flaw}
 use Rattle.cert_verify.specs.Flaws.{FirstFlaw}
 
--- a yes tells budgets that admit the system, that lose no job, and that can't be smaller at a
--- computed leaf
+-- a yes tells budgets that admit the system, that lose no job, in the tree and at each node by
+-- itself, and that can't be smaller at a computed leaf
 what_a_yes_gives : (sys : SystemView) (text : List ℕ) → AdmitMeans sys Yes text
     → (budgets : List ℕ) × (replays : List Replay) × (text ≡ admit_text sys budgets replays) × Admitted sys budgets
-    × NoLoss sys budgets × IsTight sys budgets × AreReplays sys budgets replays × AllDefeat sys replays
+    × NoLoss sys budgets × Keeping sys budgets × IsTight sys budgets × AreReplays sys budgets replays × AllDefeat sys replays
 what_a_yes_gives sys text kept = (
   kept.budgets,
   kept.replays,
   kept.told,
   kept.admitted,
   kept.no_loss,
+  kept.each_node,
   kept.tight,
   kept.replayed,
   kept.defeat,
@@ -105,8 +107,8 @@ a_certificate_that_is_told sys text told = (told.nodes, told.read, told.proof)
 
 what_a_proof_says : (sys : SystemView) (nodes : List NodeView) → IsProof sys nodes
     → Proves sys nodes × Admitted sys (budgets_of sys nodes) × NoLoss sys (budgets_of sys nodes)
-    × IsTight sys (budgets_of sys nodes)
-what_a_proof_says sys nodes proof = (proof.proves, proof.admitted, proof.no_loss, proof.tight)
+    × Keeping sys (budgets_of sys nodes) × IsTight sys (budgets_of sys nodes)
+what_a_proof_says sys nodes proof = (proof.proves, proof.admitted, proof.no_loss, proof.each_node, proof.tight)
 
 -- `check`: a fault of the certificate is told of the second file, and a flaw by its own line
 faults_of_the_certificate : (bytes : List ℕ) →

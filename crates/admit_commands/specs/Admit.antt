@@ -3,6 +3,7 @@ use Rattle.std.specs.Prelude.{◌≡◌, ℕ, List, ⊤}
 use Rattle.tree_model.specs.View.{SystemView}
 use Rattle.tree_model.specs.Tree.{NoLoss}
 use Rattle.tree_model.specs.Admission.{Admitted}
+use Rattle.compose_tree.specs.Keeping.{Keeping}
 use Rattle.compose_tree.specs.Truth.{IsTight}
 use Rattle.miss_witness.specs.declared.replay.Replay.{Replay}
 use Rattle.rt_report.specs.Admit.{admit_text}
@@ -26,8 +27,8 @@ abbrev pub Admits : SystemView → Status → List ℕ → Type 0
 Admits sys = OnAdmitted sys (IsAdmission sys)
 
 -- yes means: the budgets that the text tells admit the system, no job is lost on any level in any
--- permitted run, whenever each server begins, and every whole budget below a computed leaf budget
--- must miss: the supply and the release that the text tells of the leaf defeat each of them, and
+-- permitted run, whenever each server begins, nor at any node by itself over any supply of its own
+-- kind, and every whole budget below a computed leaf budget must miss: the supply and the release that the text tells of the leaf defeat each of them, and
 -- the miss that it tells is the first of the first run of that release
 pub record KeepsDeadlines (sys : SystemView) (text : List ℕ) : Type 0 where
   pub budgets : List ℕ
@@ -35,6 +36,7 @@ pub record KeepsDeadlines (sys : SystemView) (text : List ℕ) : Type 0 where
   pub told : text ≡ admit_text sys budgets replays
   pub admitted : Admitted sys budgets
   pub no_loss : NoLoss sys budgets
+  pub each_node : Keeping sys budgets
   pub tight : IsTight sys budgets
   pub replayed : AreReplays sys budgets replays
   pub defeat : AllDefeat sys replays

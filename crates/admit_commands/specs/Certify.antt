@@ -5,6 +5,7 @@ use Rattle.tree_model.specs.CertificateView.{NodeView}
 use Rattle.tree_model.specs.View.{SystemView}
 use Rattle.tree_model.specs.Tree.{NoLoss}
 use Rattle.tree_model.specs.Admission.{Admitted, FirstRefusal}
+use Rattle.compose_tree.specs.Keeping.{Keeping}
 use Rattle.compose_tree.specs.Truth.{IsTight}
 use Rattle.cert_reader.specs.CertificateFile.{certificate_of}
 use Rattle.cert_reader.specs.Printed.{certificate_text}
@@ -38,12 +39,13 @@ abbrev pub Certifies : SystemView → Status → List ℕ → Type 0
 Certifies sys = OnAttempt (certifying sys) IsPrinted
 
 -- What a certificate that proves a system says of it: its budgets admit the system, no job is lost
--- on any level in any permitted run, whenever each server begins, and every whole budget below a
--- computed leaf budget must miss.
+-- on any level in any permitted run, whenever each server begins, nor at any node by itself over any
+-- supply of its own kind, and every whole budget below a computed leaf budget must miss.
 pub record IsProof (sys : SystemView) (nodes : List NodeView) : Type 0 where
   pub proves : Proves sys nodes
   pub admitted : Admitted sys (budgets_of sys nodes)
   pub no_loss : NoLoss sys (budgets_of sys nodes)
+  pub each_node : Keeping sys (budgets_of sys nodes)
   pub tight : IsTight sys (budgets_of sys nodes)
 
 -- yes means: the text is read as a certificate that proves the system

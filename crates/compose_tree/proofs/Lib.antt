@@ -1,4 +1,3 @@
-pub mod Keeping
 pub mod TreeRuns
 mod TreeExists
 pub mod Sound

@@ -19,7 +19,7 @@ use Rattle.tree_model.proofs.NodeTasks.{leaf_tasks, inner_tasks}
 use Rattle.tree_model.proofs.Parents.{servers_constrained, leaf_constrained}
 use Rattle.tree_model.proofs.InRange.{InPeriod, admitted_in_period}
 use Rattle.compose_tree.specs.Truth.{IsTight}
-use Rattle.compose_tree.proofs.Keeping.{Keeping}
+use Rattle.compose_tree.specs.Keeping.{Keeping}
 use Rattle.compose_tree.proofs.TreeRuns.{tree_no_loss}
 use Rattle.compose_tree.proofs.TreeExists.{started_tree_exists}
 

@@ -21,7 +21,7 @@ use Rattle.tree_model.specs.System.{IsSystem, Stands, core_at, part_at, is_leaf_
 use Rattle.tree_model.specs.Tree.{place_of, is_child, budget_at, server_tasks, run_at, run_of, child_starts, started_jobs, started_supply, StartedTree, TreeInputs, NothingLost}
 use Rattle.tree_model.proofs.Children.{IsServer, server_at, start_of_child, same_itself}
 use Rattle.tree_model.proofs.Parents.{servers_constrained}
-use Rattle.compose_tree.proofs.Keeping.{Keeping}
+use Rattle.compose_tree.specs.Keeping.{Keeping}
 
 -- the slots of a part among its parent's
 abbrev given_to : SystemView → List ℕ → List ℕ → ℕ → Place → List (Option ℕ) → ℕ → List Bool

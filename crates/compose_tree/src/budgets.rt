@@ -4,6 +4,7 @@ ghost use Rattle.tree_model.specs.System.{IsSystem, is_computed_leaf, part_at};
 ghost use Rattle.tree_model.specs.Tree.{NoLoss};
 ghost use Rattle.tree_model.specs.Admission.{NodePasses, AssignedFrom, Assigned, Admitted, FirstRefusal};
 ghost use Rattle.tree_model.specs.Plans.{IsPlan};
+ghost use Rattle.compose_tree.specs.Keeping.{Keeping};
 ghost use Rattle.compose_tree.specs.Shorts.{AreShorts, IsShortOf};
 ghost use Rattle.compose_tree.specs.inner.Shorts.{ShortsFrom};
 ghost use Rattle.compose_tree.specs.Steps.{RefusesAt, PartsPassFrom};
@@ -35,6 +36,7 @@ pub fn compose(alloc: Global, sys: &System) -> Result<Plan, Refusal>
     ensures in_period { IfOk result (λ plan. IsPlan sys.now plan) }
     // what a plan and a refusal say of supplies and releases
     ensures no_loss { IfOk result (λ plan. NoLoss sys.now plan) }
+    ensures each_node { IfOk result (λ plan. Keeping sys.now plan) }
     ensures tight { IfOk result (λ plan. IsTight sys.now plan) }
     ensures holds { IfErr result (λ r. RefusalHolds sys.now r) }
 {

@@ -9,7 +9,7 @@ use Rattle.slot_model.specs.declared.job.Job.{Job}
 use Rattle.tree_model.specs.View.{SystemView}
 use Rattle.tree_model.specs.System.{IsSystem, is_leaf_at}
 use Rattle.tree_model.specs.Tree.{run_at, started_supply}
-use Rattle.compose_tree.proofs.Keeping.{Keeping}
+use Rattle.compose_tree.specs.Keeping.{Keeping}
 use Rattle.compose_tree.proofs.TreeRuns.{Running, part_has_budget}
 use Rattle.rt_report.specs.declared.responses.Response.{Response}
 use Rattle.guest_commands.specs.Responses.{IsAnswered, RespondsInRun, RespondsInTree}

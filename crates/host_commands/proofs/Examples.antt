@@ -19,6 +19,7 @@ use Rattle.bulk_host.specs.Host.{bulk_host}
 use Rattle.bulk_run.specs.declared.counts.BulkCounts.{BulkCounts}
 use Rattle.bulk_run.specs.Summary.{bulk_slots, bulk_supplies, bulk_jobs, AreBulkCounts}
 use Rattle.system_file.specs.SystemFile.{system_of}
+use Rattle.compose_tree.specs.Keeping.{Keeping}
 use Rattle.compose_tree.specs.Truth.{IsTight, RefusalHolds}
 use Rattle.admission_session.specs.declared.answer.Answer.{Answer}
 use Rattle.admission_session.specs.declared.answer.Answer.TheVariants.{Refused as NoEdit, Denied}
@@ -67,7 +68,7 @@ what_a_session_gives : (sys : SystemView) (edits : List Edit) (text : List ℕ) 
     × ((k : ℕ) (fault : EditFault) → slice_get answers k ≡ Some (NoEdit fault)
     → (edit : Edit) × (now : SystemView) × (slice_get edits k ≡ Some edit)
     × AreAnswered sys (take k edits) (take k answers) now × (MakesSystem now edit → ⊥))
-    × Admitted last budgets × NoLoss last budgets × IsTight last budgets
+    × Admitted last budgets × NoLoss last budgets × Keeping last budgets × IsTight last budgets
 what_a_session_gives sys edits text left = (
   left.answers,
   left.last,
@@ -78,6 +79,7 @@ what_a_session_gives sys edits text left = (
   (λ k fault e. let row = left.refused k fault e in (row.edit, row.now, row.is_row, row.before, row.none)),
   left.admitted,
   left.no_loss,
+  left.each_node,
   left.tight,
 )
 
@@ -86,9 +88,9 @@ what_a_session_gives sys edits text left = (
 what_a_placement_gives : (sys : SystemView) (guests : List PartView) (text : List ℕ)
     → MeansOfPlaces sys guests Yes text
     → (placed : SystemView) × (budgets : List ℕ) × (system_of text ≡ Ok placed) × IsPlaced sys guests placed
-    × Admitted placed budgets × NoLoss placed budgets × IsTight placed budgets
+    × Admitted placed budgets × NoLoss placed budgets × Keeping placed budgets × IsTight placed budgets
 what_a_placement_gives sys guests text told =
-    (told.placed, told.budgets, told.read, told.is, told.admitted, told.no_loss, told.tight)
+    (told.placed, told.budgets, told.read, told.is, told.admitted, told.no_loss, told.each_node, told.tight)
 
 -- no: the system is refused as it stands, or a guest is told which fits on no core
 what_no_placement_gives : (sys : SystemView) (guests : List PartView) (text : List ℕ)

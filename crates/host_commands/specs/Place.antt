@@ -7,6 +7,7 @@ use Rattle.tree_model.specs.declared.plan.Refusal.{Refusal}
 use Rattle.tree_model.specs.View.{PartView, SystemView}
 use Rattle.tree_model.specs.Tree.{NoLoss}
 use Rattle.tree_model.specs.Admission.{Admitted, FirstRefusal}
+use Rattle.compose_tree.specs.Keeping.{Keeping}
 use Rattle.compose_tree.specs.Truth.{IsTight, RefusalHolds}
 use Rattle.admission_session.specs.Leaves.{with_guest}
 use Rattle.admission_session.specs.Answers.{IsAdmitted}
@@ -86,8 +87,8 @@ Places = OnRead (λ sys. guesting) PlacesGuests
 
 -- yes means: the text is read as a system that has the given cores and parts and then the guests,
 -- each on the first core on which it fits; budgets admit it, no job is lost on any level in any
--- permitted run, whenever each server begins, and every whole budget below a computed leaf budget
--- must miss
+-- permitted run, whenever each server begins, nor at any node by itself over any supply of its own
+-- kind, and every whole budget below a computed leaf budget must miss
 pub record TellsPlaced (sys : SystemView) (guests : List PartView) (text : List ℕ)
     : Type 0 where
   pub placed : SystemView
@@ -96,6 +97,7 @@ pub record TellsPlaced (sys : SystemView) (guests : List PartView) (text : List 
   pub budgets : List ℕ
   pub admitted : Admitted placed budgets
   pub no_loss : NoLoss placed budgets
+  pub each_node : Keeping placed budgets
   pub tight : IsTight placed budgets
 
 -- no means: the system is refused as it stands, as `admit` says, or the text tells a guest for

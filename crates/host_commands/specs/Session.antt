@@ -5,6 +5,7 @@ use Rattle.tree_model.specs.declared.plan.Refusal.{Refusal}
 use Rattle.tree_model.specs.View.{SystemView}
 use Rattle.tree_model.specs.Tree.{NoLoss}
 use Rattle.tree_model.specs.Admission.{Admitted}
+use Rattle.compose_tree.specs.Keeping.{Keeping}
 use Rattle.compose_tree.specs.Truth.{IsTight, RefusalHolds}
 use Rattle.admission_session.specs.declared.answer.Answer.{Answer}
 use Rattle.admission_session.specs.declared.answer.Answer.TheVariants.{Refused, Denied}
@@ -74,7 +75,8 @@ RefusedMakeNone sys edits answers =
 -- yes means: each row was answered as the rules of an edit say, what a denied row is told holds, a
 -- refused row would make no system, and of the system that the rows leave, the budgets that the
 -- text tells admit it, no job is lost on any level in any permitted run, whenever each server
--- begins, and every whole budget below a computed leaf budget must miss
+-- begins, nor at any node by itself over any supply of its own kind, and every whole budget below a
+-- computed leaf budget must miss
 pub record LeavesDeadlines (sys : SystemView) (edits : List Edit) (text : List ℕ)
     : Type 0 where
   pub answers : List Answer
@@ -86,6 +88,7 @@ pub record LeavesDeadlines (sys : SystemView) (edits : List Edit) (text : List �
   pub told : text ≡ session_text answers last budgets
   pub admitted : Admitted last budgets
   pub no_loss : NoLoss last budgets
+  pub each_node : Keeping last budgets
   pub tight : IsTight last budgets
 
 -- no means what that of `admit` does; of a wide answer nothing is claimed

@@ -10,7 +10,7 @@ use Rattle.tree_model.specs.View.{SystemView}
 use Rattle.tree_model.specs.System.{part_at}
 use Rattle.tree_model.specs.Plans.{IsPlan}
 use Rattle.tree_model.proofs.InRange.{assigned_is_plan}
-use Rattle.compose_tree.proofs.Keeping.{Keeping}
+use Rattle.compose_tree.specs.Keeping.{Keeping}
 use Rattle.compose_tree.proofs.Sound.{admitted_keeping}
 use Rattle.trace_file.specs.Rules.{is_core, is_vcpu}
 use Rattle.trace_file.proofs.Moments.{child_parent}

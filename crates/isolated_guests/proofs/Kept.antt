@@ -10,7 +10,7 @@ use Rattle.tree_model.specs.Tree.{is_child, budget_at, run_at, server_tasks}
 use Rattle.tree_model.specs.Releases.{jobs_at}
 use Rattle.tree_model.specs.Plans.{IsPlan}
 use Rattle.tree_model.proofs.InRange.{assigned_is_plan}
-use Rattle.compose_tree.proofs.Keeping.{Keeping}
+use Rattle.compose_tree.specs.Keeping.{Keeping}
 use Rattle.compose_tree.proofs.Sound.{admitted_keeping}
 use Rattle.release_file.specs.declared.workload.Wake.{Wake}
 use Rattle.release_file.specs.Workload.{start_of, is_blocked_at}

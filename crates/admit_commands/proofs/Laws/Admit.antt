@@ -2,7 +2,7 @@
 use Rattle.std.proofs.Common.{◌≡◌, ℕ, List, sym, ◌∙◌, ap, subst, inl, inr}
 use Rattle.tree_model.specs.View.{SystemView}
 use Rattle.tree_model.specs.System.{IsSystem}
-use Rattle.compose_tree.proofs.Sound.{admitted_no_loss, admitted_tight}
+use Rattle.compose_tree.proofs.Sound.{admitted_keeping, admitted_no_loss, admitted_tight}
 use Rattle.miss_witness.specs.declared.replay.Replay.{Replay}
 use Rattle.rt_report.specs.Admit.{admit_text}
 use Rattle.miss_witness.proofs.Defeated.{replays_defeat}
@@ -43,6 +43,7 @@ admits_means sys is status text h = elim h [
         told = a.said.told;
         admitted = a.gives;
         no_loss = admitted_no_loss sys is a.value a.gives;
+        each_node = admitted_keeping sys is a.value a.gives;
         tight = admitted_tight sys is a.value a.gives;
         replayed = a.said.replayed;
         defeat = replays_defeat sys is a.value a.gives a.said.replays a.said.replayed;

@@ -6,7 +6,7 @@ use Rattle.tree_model.specs.View.{SystemView}
 use Rattle.tree_model.specs.System.{IsSystem}
 use Rattle.tree_model.specs.Admission.{Admitted}
 use Rattle.tree_model.proofs.Unique.{one_refusal, never_both}
-use Rattle.compose_tree.proofs.Sound.{admitted_no_loss, admitted_tight}
+use Rattle.compose_tree.proofs.Sound.{admitted_keeping, admitted_no_loss, admitted_tight}
 use Rattle.cert_reader.specs.CertificateFile.{certificate_of}
 use Rattle.cert_reader.specs.Printed.{certificate_text}
 use Rattle.cert_verify.specs.Proves.{budgets_of, Proves}
@@ -53,6 +53,7 @@ proof_of sys is nodes proves =
       proves = proves;
       admitted = admitted;
       no_loss = admitted_no_loss sys is (budgets_of sys nodes) admitted;
+      each_node = admitted_keeping sys is (budgets_of sys nodes) admitted;
       tight = admitted_tight sys is (budgets_of sys nodes) admitted;
     }
 

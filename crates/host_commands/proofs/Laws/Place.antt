@@ -7,7 +7,7 @@ use Rattle.tree_model.specs.View.{PartView, SystemView}
 use Rattle.tree_model.specs.System.{IsSystem}
 use Rattle.tree_model.specs.declared.plan.Refusal.TheVariants.{Overfull, Wide as TooWide, NoMemory as NoRefusal}
 use Rattle.compose_tree.proofs.Refusals.{refusal_holds}
-use Rattle.compose_tree.proofs.Sound.{admitted_no_loss, admitted_tight}
+use Rattle.compose_tree.proofs.Sound.{admitted_keeping, admitted_no_loss, admitted_tight}
 use Rattle.admission_session.specs.Leaves.{with_guest}
 use Rattle.admission_session.proofs.MadeSystems.{new_leaf_is}
 use Rattle.placement.specs.declared.fault.PlaceFault.{PlaceFault}
@@ -131,6 +131,7 @@ places_means sys is guests status text h = elim h [
         budgets = budgets;
         admitted = a.gives.admitted.1;
         no_loss = admitted_no_loss a.value placed budgets a.gives.admitted.1;
+        each_node = admitted_keeping a.value placed budgets a.gives.admitted.1;
         tight = admitted_tight a.value placed budgets a.gives.admitted.1;
       }))
   | inr a ↦

@@ -9,7 +9,7 @@ use Rattle.tree_model.specs.Admission.{Admitted}
 use Rattle.tree_model.proofs.Unique.{one_admission}
 use Rattle.compose_tree.specs.Truth.{RefusalHolds}
 use Rattle.compose_tree.proofs.Refusals.{refusal_holds}
-use Rattle.compose_tree.proofs.Sound.{admitted_no_loss, admitted_tight}
+use Rattle.compose_tree.proofs.Sound.{admitted_keeping, admitted_no_loss, admitted_tight}
 use Rattle.admission_session.specs.declared.answer.Answer.{Answer}
 use Rattle.admission_session.specs.declared.answer.Answer.TheVariants.{Refused, Denied}
 use Rattle.admission_session.specs.declared.edit.Edit.{Edit}
@@ -138,6 +138,7 @@ edits_means sys is edits status text h = elim h [
         told = a.said.told;
         admitted = a.said.admitted;
         no_loss = admitted_no_loss a.said.last left a.said.budgets a.said.admitted;
+        each_node = admitted_keeping a.said.last left a.said.budgets a.said.admitted;
         tight = admitted_tight a.said.last left a.said.budgets a.said.admitted;
       }))
   | inr a ↦

@@ -5,7 +5,7 @@ use Rattle.tree_model.specs.View.{SystemView}
 use Rattle.tree_model.specs.Admission.{FirstRefusal}
 use Rattle.tree_model.proofs.Unique.{one_admission}
 use Rattle.compose_tree.specs.Truth.{RefusalHolds}
-use Rattle.compose_tree.proofs.Sound.{admitted_no_loss, admitted_tight}
+use Rattle.compose_tree.proofs.Sound.{admitted_keeping, admitted_no_loss, admitted_tight}
 use Rattle.compose_tree.proofs.Refusals.{refusal_holds}
 use Rattle.compose_tree.proofs.Settling.{not_refused}
 use Rattle.compose_tree.proofs.budgets.compose.Goals as goal
@@ -25,6 +25,10 @@ returns-in-Ok-clause-complete c =
 pub returns-in-Ok-clause-no_loss : goal.returns-in-Ok-clause-no_loss
 returns-in-Ok-clause-no_loss c =
     admitted_no_loss c.args.sys.now c.compose_by.ensures.system _ c.in-Ok.ensures.plan
+
+pub returns-in-Ok-clause-each_node : goal.returns-in-Ok-clause-each_node
+returns-in-Ok-clause-each_node c =
+    admitted_keeping c.args.sys.now c.compose_by.ensures.system _ c.in-Ok.ensures.plan
 
 pub returns-in-Ok-clause-tight : goal.returns-in-Ok-clause-tight
 returns-in-Ok-clause-tight c = admitted_tight c.args.sys.now c.compose_by.ensures.system _ c.in-Ok.ensures.plan
