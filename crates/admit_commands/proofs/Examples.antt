@@ -46,7 +46,8 @@ use Rattle.cert_verify.specs.Flaws.{FirstFlaw}
 -- itself, and that can't be smaller at a computed leaf
 what_a_yes_gives : (sys : SystemView) (text : List ℕ) → AdmitMeans sys Yes text
     → (budgets : List ℕ) × (replays : List Replay) × (text ≡ admit_text sys budgets replays) × Admitted sys budgets
-    × NoLoss sys budgets × Keeping sys budgets × IsTight sys budgets × AreReplays sys budgets replays × AllDefeat sys replays
+    × NoLoss sys budgets × Keeping sys budgets × IsTight sys budgets × AreReplays sys budgets replays
+    × AllDefeat sys replays
 what_a_yes_gives sys text kept = (
   kept.budgets,
   kept.replays,

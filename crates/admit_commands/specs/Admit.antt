@@ -28,8 +28,9 @@ Admits sys = OnAdmitted sys (IsAdmission sys)
 
 -- yes means: the budgets that the text tells admit the system, no job is lost on any level in any
 -- permitted run, whenever each server begins, nor at any node by itself over any supply of its own
--- kind, and every whole budget below a computed leaf budget must miss: the supply and the release that the text tells of the leaf defeat each of them, and
--- the miss that it tells is the first of the first run of that release
+-- kind, and every whole budget below a computed leaf budget must miss: the supply and the release
+-- that the text tells of the leaf defeat each of them, and the miss that it tells is the first of
+-- the first run of that release
 pub record KeepsDeadlines (sys : SystemView) (text : List ℕ) : Type 0 where
   pub budgets : List ℕ
   pub replays : List Replay

@@ -39,8 +39,8 @@ abbrev pub Certifies : SystemView → Status → List ℕ → Type 0
 Certifies sys = OnAttempt (certifying sys) IsPrinted
 
 -- What a certificate that proves a system says of it: its budgets admit the system, no job is lost
--- on any level in any permitted run, whenever each server begins, nor at any node by itself over any
--- supply of its own kind, and every whole budget below a computed leaf budget must miss.
+-- on any level in any permitted run, whenever each server begins, nor at any node by itself over
+-- any supply of its own kind, and every whole budget below a computed leaf budget must miss.
 pub record IsProof (sys : SystemView) (nodes : List NodeView) : Type 0 where
   pub proves : Proves sys nodes
   pub admitted : Admitted sys (budgets_of sys nodes)
