@@ -1,0 +1,2 @@
+pub mod Cbs
+pub mod Giving

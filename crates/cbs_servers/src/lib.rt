@@ -1,0 +1,29 @@
+//! Constant bandwidth servers on one full core: theorems, as contracts of functions that do nothing.
+#![tactic(auto)]
+
+ghost use Rattle.cbs_servers.specs.Cbs.{HasFileRun, FileRunIsOnly, FileOrderIsOpen, HasRun};
+ghost use Rattle.cbs_servers.specs.Giving.{NeverLate, NeverShort, GivesWhatIsLeft, GivesBusy, GivesFresh};
+
+/// Over each number of slots there is just one run by the order of the file, and it is one of those
+/// in which ties are open.
+pub fn makes_runs()
+    ensures exists { HasFileRun }
+    ensures only { FileRunIsOnly }
+    ensures open { FileOrderIsOpen }
+    ensures some { HasRun }
+{}
+
+/// Where the shares fit, a server that is awake can always have what is left of its budget before
+/// its deadline, and has it.
+pub fn keeps_budgets()
+    ensures never_late { NeverLate }
+    ensures never_short { NeverShort }
+    ensures what_is_left { GivesWhatIsLeft }
+{}
+
+/// So over a window in which it is awake it has no less than a periodic resource gives, the supply
+/// of its budget and period over which a guest is tested.
+pub fn gives_supply()
+    ensures busy { GivesBusy }
+    ensures fresh { GivesFresh }
+{}
