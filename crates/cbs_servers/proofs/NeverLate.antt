@@ -180,7 +180,7 @@ slot_on_time x true a comes m z = let q = m refl in omega (arith, q.1, z)
 module _ (s : Servers) (servers : AreServers s) (shares : SharesFit s) (n : ℕ) (run : List (Option ℕ))
     (r : CbsRun s n run) where
   -- what has a slot had something left, and room for it
-  ran : (x : ℕ) → x < n → OnTime s run x → (v : ℕ) → IsServer s v → holds (held run x) v ≡ true
+  pub ran : (x : ℕ) → x < n → OnTime s run x → (v : ℕ) → IsServer s v → holds (held run x) v ≡ true
       → (1 ≤ (account s run v x).left) × (x + (account s run v x).left ≤ (account s run v x).due)
   ran x l time v is h =
       let p = eligible-is s run v x ((r.each x l).named v (holds-is _ _ h)) in
