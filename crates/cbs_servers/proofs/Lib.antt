@@ -2,3 +2,5 @@ pub mod Steps
 pub mod Windows
 pub mod NeverLate
 pub mod Accounts
+mod Counted
+pub mod BusySupply
