@@ -4,3 +4,5 @@ pub mod NeverLate
 pub mod Accounts
 mod Counted
 pub mod BusySupply
+pub mod Gives
+pub mod Runs

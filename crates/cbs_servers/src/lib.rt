@@ -9,8 +9,8 @@ ghost use Rattle.cbs_servers.specs.Giving.{NeverLate, NeverShort, GivesWhatIsLef
 pub fn makes_runs()
     ensures exists { HasFileRun }
     ensures only { FileRunIsOnly }
-    ensures open { FileOrderIsOpen }
-    ensures some { HasRun }
+    ensures among { FileOrderIsOpen }
+    ensures any { HasRun }
 {}
 
 /// Where the shares fit, a server that is awake can always have what is left of its budget before
