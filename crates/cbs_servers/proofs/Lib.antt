@@ -6,3 +6,4 @@ mod Counted
 pub mod BusySupply
 pub mod Gives
 pub mod Runs
+mod Examples
