@@ -2,15 +2,14 @@
 use Rattle.std.proofs.Common.{◌≡◌, ℕ, zero, suc, ◌+◌, ◌*◌, ◌<◌, ◌≤◌, Bool, true, false, not, cond, List, Option, arith, refl, sym, ap, subst, inl, inr}
 use Rattle.std.proofs.lemmas.Bool.{cases_eq, and_right, both_ways}
 use Rattle.slot_model.specs.Run.{held, holds}
-use Rattle.slot_model.proofs.Runs.{holds-is}
 use Rattle.cbs_servers.specs.Cbs.{Servers, IsServer, Account, after_slot, wakes, no_account, account, CbsRun}
 use Rattle.cbs_servers.specs.Giving.{AreServers, SharesFit}
 use Rattle.cbs_servers.proofs.Steps.{Turn, renews, returns, stays, turn, next_at, next_near}
 use Rattle.cbs_servers.proofs.Windows.{account-zero, account-suc, got, got_none, got_next, comes, IsUp}
 use Rattle.cbs_servers.proofs.NeverLate.{ran, on_time, late_nowhere}
 
--- at a moment: its deadline is at most a period away, and what it has used of its budget it has used
--- since a period before its deadline, so that this much of the period is over
+-- at a moment: its deadline is at most a period away, and what it has used of its budget it has
+-- used since a period before its deadline, so that this much of the period is over
 pub record Sound (budget period x : ℕ) (a : Account) : Type 0 where
   pub near : a.due ≤ x + period
   pub used : a.due + budget ≤ x + period + a.left
@@ -118,14 +117,17 @@ module _ (s : Servers) (servers : AreServers s) (shares : SharesFit s) (n : ℕ)
     | inr ne ↦
         let l' : a ≤ y = omega arith in
         let u : s.awake v y ≡ true = awake y l' (omega arith) in
-        subst (λ (have : ℕ). GoesOn (s.budget v) (s.period v) (suc y) have (account s run v a) (account s run v (suc y)))
+        subst (λ (have : ℕ). GoesOn (s.budget v) (s.period v) (suc y) have (account s run v a)
+        (account s run v (suc y)))
         (sym (got_next a run v y l'))
         (subst (GoesOn (s.budget v) (s.period v) (suc y) (got a run v y + cond (holds (held run y) v) 1 0)
         (account s run v a)) (sym (account-suc s run v y))
         (on_step (s.budget v) (s.period v) y (got a run v y) (holds (held run y) v) (wakes s v (suc y))
         (account s run v a) (account s run v y) _ (and_right (s.awake v (suc y)) (not (s.awake v y)) (ap not u))
-        (λ e. (ran s servers shares n run r y (omega arith) (on_time s servers shares n run r y (omega arith)) v is e).0)
+        (λ e. (ran s servers shares n run r y (omega arith)
+        (on_time s servers shares n run r y (omega arith)) v is e).0)
         (on_time s servers shares n run r (suc y) m v (suc y) is (omega arith))
-        (turn (s.budget v) (s.period v) (suc y) (wakes s v (suc y)) (after_slot (holds (held run y) v) (account s run v y)))
+        (turn (s.budget v) (s.period v) (suc y) (wakes s v (suc y))
+        (after_slot (holds (held run y) v) (account s run v y)))
         (goes_on a y l' (omega arith) (λ z lz mz. awake z lz (omega arith)))))
   ]

@@ -14,8 +14,9 @@ use Rattle.cbs_servers.proofs.Windows.{got, got_none, got_next, left-le, comes, 
 use Rattle.cbs_servers.proofs.Accounts.{Sound, GoesOn, sound, in_time, goes_on}
 use Rattle.cbs_servers.proofs.Counted.{window_has, part_has}
 
--- The slots of a periodic resource whose period ends at the server's deadline: before the window the
--- part of the budget that is used, at the front of the period; then the window; then every slot.
+-- The slots of a periodic resource whose period ends at the server's deadline: before the window
+-- the part of the budget that is used, at the front of the period; then the window; then every
+-- slot.
 abbrev virtual : ℕ → ℕ → List (Option ℕ) → ℕ → ℕ → ℕ → ℕ → Bool
 virtual front early run v a b z =
     cond (ltb z front) (ltb z early) (cond (ltb (a + (z - front)) b) (holds (get_or run (a + (z - front)) None) v) true)
@@ -157,12 +158,14 @@ module _ (s : Servers) (servers : AreServers s) (shares : SharesFit s) (n : ℕ)
       = goes_on s servers shares n run r v is a b (omega arith) in_run awake in
       let i = in_time s servers shares n run r v is b in_run (is_up b order (omega arith)) in
       let m = left-le s run v b in
-      let e : (suc k) * period ≡ (front + (b - a)) + (due + k * period - b) = omega (arith, begins.front_is, begins.ahead) in
+      let e : (suc k) * period ≡ (front + (b - a)) + (due + k * period - b) = omega
+      (arith, begins.front_is, begins.ahead) in
       let total : count (suc k * period) ≡ (early + got a run v b) + (due + k * period - b)
       = omega (
         arith,
         ap count e,
-        past_window front early run v a b begins.fits (omega arith) (front + (b - a)) (due + k * period - b) (omega arith),
+        past_window front early run v a b begins.fits (omega arith) (front + (b - a)) (due + k * period - b)
+            (omega arith),
         in_window front early run v a b begins.fits (omega arith) (b - a) (omega arith),
         ap (got a run v) (let q : a + (b - a) ≡ b = omega arith in q),
       ) in
@@ -171,7 +174,8 @@ module _ (s : Servers) (servers : AreServers s) (shares : SharesFit s) (n : ℕ)
             let c : suc k * budget ≤ g.passed * budget = mul-le-mul_right budget high in
             omega (arith, total, g.had_is, m, begins.early_is, c)
         | inr low ↦
-            let c : (k - g.passed) * budget ≤ (k - g.passed) * period = mul-le-mul_left (k - g.passed) (servers.within v is) in
+            let c : (k - g.passed) * budget ≤ (k - g.passed) * period = mul-le-mul_left (k - g.passed)
+            (servers.within v is) in
             let f : g.passed + (k - g.passed) ≡ k = omega arith in
             omega (
               arith,
@@ -247,7 +251,8 @@ module _ (s : Servers) (servers : AreServers s) (shares : SharesFit s) (n : ℕ)
         ap (sbf period budget) (
             let w : t + (period - budget) ≡ (period - budget) + (q * period + m) = omega (arith, e) in w),
         sbf_at period budget q m lm,
-        part_has (virtual front early run v a b) period budget some_period (servers.within v is) gives q m (omega arith),
+        part_has (virtual front early run v a b) period budget some_period (servers.within v is) gives q m
+            (omega arith),
         whole_periods q,
         ap count (let w : q * period + m ≡ front + (b - a) = omega (arith, e, no_front) in w),
         in_window front early run v a b begins.fits (omega arith) (b - a) (omega arith),

@@ -48,7 +48,8 @@ module _ (given : ℕ → Bool) (period budget : ℕ) (some : 1 ≤ period) (wit
               between n (k * period) n (omega (arith, long n, l)) (omega arith),
               gives k,
               count_slow given n (suc k * period - n),
-              ap (count_below given) (let w : n + (suc k * period - n) ≡ k * period + period = omega (arith, broken) in w),
+              ap (count_below given) (let w : n + (suc k * period - n) ≡ k * period + period = omega
+                  (arith, broken) in w),
             ))
       ]
 

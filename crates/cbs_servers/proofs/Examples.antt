@@ -1,10 +1,10 @@
 -- Worked accounts of a server of 2 slots in 10, and entries of runs of two and three servers. A
 -- definition that says otherwise breaks one of these.
-use Rattle.std.proofs.Common.{◌≡◌, ℕ, zero, suc, ◌+◌, ◌*◌, ◌<◌, ◌≤◌, ◌==◌, Bool, true, false, if◌then◌else◌, nat_lt, nat_le, ◌||◌, List, [], ◌∷◌, Option, Some, None, refl, sym, subst, arith, le-ltb, lit<, lit≤}
+use Rattle.std.proofs.Common.{◌≡◌, ℕ, zero, suc, ◌+◌, ◌*◌, ◌≤◌, true, false, nat_lt, nat_le, ◌||◌, List, [], ◌∷◌, Option, Some, None, refl, sym, subst, arith, le-ltb, lit<, lit≤}
 use Rattle.std.proofs.lemmas.Bool.{false≢true}
 use Rattle.slot_model.specs.Slots.{sum_below}
 use Rattle.slot_model.specs.Bound.{sbf}
-use Rattle.cbs_servers.specs.Cbs.{Servers, IsServer, Account, no_account, at_moment, after_slot, account, is_eligible, CbsEntry, FileEntry, goes_before}
+use Rattle.cbs_servers.specs.Cbs.{Servers, IsServer, Account, at_moment, after_slot, account, is_eligible, CbsEntry, FileEntry, goes_before}
 use Rattle.cbs_servers.specs.Giving.{SharesFit, slots_had}
 
 abbrev has : ℕ → ℕ → Account
@@ -22,7 +22,8 @@ renewed_above_its_share : at_moment 2 10 6 true (has 1 10) ≡ has 2 16
 renewed_above_its_share = refl
 
 -- one at the deadline or behind it renews, whatever is left
-renewed_at_the_deadline : (at_moment 2 10 10 true (has 1 10) ≡ has 2 20) × (at_moment 2 10 10 true (has 0 10) ≡ has 2 20)
+renewed_at_the_deadline : (at_moment 2 10 10 true (has 1 10) ≡ has 2 20) ×
+    (at_moment 2 10 10 true (has 0 10) ≡ has 2 20)
 renewed_at_the_deadline = (refl, refl)
 
 renewed_behind_it : (at_moment 2 10 12 true (has 1 10) ≡ has 2 22) × (at_moment 2 10 12 true (has 0 10) ≡ has 2 22)
@@ -33,7 +34,8 @@ throttled : at_moment 2 10 5 true (has 0 10) ≡ has 0 10
 throttled = refl
 
 -- it has its budget again at its deadline, and no slot sooner, with no wake-up
-comes_back_at_the_deadline : (at_moment 2 10 9 false (has 0 10) ≡ has 0 10) × (at_moment 2 10 10 false (has 0 10) ≡ has 2 20)
+comes_back_at_the_deadline : (at_moment 2 10 9 false (has 0 10) ≡ has 0 10) ×
+    (at_moment 2 10 10 false (has 0 10) ≡ has 2 20)
 comes_back_at_the_deadline = (refl, refl)
 
 -- one that is used up behind its deadline comes back with the next deadline, as long as that is not
@@ -43,7 +45,8 @@ comes_back_behind_it : (at_moment 2 10 13 false (has 0 10) ≡ has 2 20) × (at_
 comes_back_behind_it = (refl, refl, refl)
 
 -- without a wake-up what is left stays, also behind the deadline
-stays_without_a_wake_up : (at_moment 2 10 6 false (has 1 10) ≡ has 1 10) × (at_moment 2 10 12 false (has 1 10) ≡ has 1 10)
+stays_without_a_wake_up : (at_moment 2 10 6 false (has 1 10) ≡ has 1 10) ×
+    (at_moment 2 10 12 false (has 1 10) ≡ has 1 10)
 stays_without_a_wake_up = (refl, refl)
 
 -- a slot costs one where the server has the core
@@ -172,8 +175,8 @@ unfolding account
 not_the_second e = false≢true (sym (e.first 0 1 refl refl))
 
 -- In the run 0 0 1 1 1 1 0 0 of these two, in which the tie at 4 goes to the second, server 0 has
--- nothing in the 4 slots from 2 on and one in the 5: just the bound. From its new account at 4 on it
--- has nothing in 2 slots, and one in 3.
+-- nothing in the 4 slots from 2 on, and one in 5 from there: just the bound. From its new account
+-- at 4 on it has nothing in 2 slots, and one in 3.
 abbrev tied : List (Option ℕ)
 tied = Some 0 ∷ Some 0 ∷ Some 1 ∷ Some 1 ∷ Some 1 ∷ Some 1 ∷ Some 0 ∷ Some 0 ∷ []
 

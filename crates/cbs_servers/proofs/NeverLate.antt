@@ -70,7 +70,8 @@ all_got s n run d t x w =
     each y l q =
         let b = w.busy y (leb-true _ _ q) l in (
           b.server,
-          (eligible-is s run b.server y ((w.is_run.each y (omega (arith, w.in_run))).named b.server b.holds_it)).0.below,
+          (eligible-is s run b.server y ((w.is_run.each y
+              (omega (arith, w.in_run))).named b.server b.holds_it)).0.below,
           cond-true {A = Option ℕ} (leb t y) _ _ q ∙ b.holds_it,
           refl,
         )
@@ -146,8 +147,10 @@ late_at s servers shares n run r v x l time is some up =
     (let q : t * s.budget v ≤ d * s.budget v = omega (arith, own) in q) (servers.some v is) in
     let each : (u : ℕ) → u < s.count → got t run u x * shares.slots + shares.share u * t ≤ shares.share u * d
     = λ u m. elim (cases_Bool (s.is_server u)) [
-      | inr other ↦ none_shares t d (got t run u x) (shares.share u) shares.slots begins (not_seen s n run d t x w u other x (omega arith))
-      | inl is ↦ let m : IsServer s u = record { below = m; is_one = is } in in_shares (s.budget u) (s.period u) t d (got t run u x) (shares.share u) shares.slots
+      | inr other ↦ none_shares t d (got t run u x) (shares.share u) shares.slots begins
+          (not_seen s n run d t x w u other x (omega arith))
+      | inl is ↦ let m : IsServer s u = record { below = m; is_one = is } in in_shares (s.budget u) (s.period u) t d
+          (got t run u x) (shares.share u) shares.slots
           (servers.some u m) (shares.shares u m)
           (had_by (s.budget u) (s.period u) t d (got t run u x) (s.awake u x) (account s run u x) begins
           (stands_at s servers n run d t x w u m x w.in_order (omega arith)))

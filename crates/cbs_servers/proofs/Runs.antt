@@ -4,7 +4,7 @@ use Rattle.std.proofs.lemmas.Bool.{cases_lt, cases_eq, cases_Bool, both_ways, or
 use Rattle.std.proofs.lemmas.Bool.{ltb-true, ltb-false, eqb-true, eq-eqb}
 use Rattle.std.proofs.lemmas.List.{ext_get_or, get_or_push, length_push, get_or_append_left}
 use Rattle.slot_model.specs.Run.{held, holds}
-use Rattle.cbs_servers.specs.Cbs.{Servers, Account, after_slot, account_from, account, is_eligible, CbsRun, goes_before, FileEntry, FileRun, HasFileRun, FileRunIsOnly, FileOrderIsOpen, HasRun}
+use Rattle.cbs_servers.specs.Cbs.{Servers, Account, after_slot, account_from, account, is_eligible, goes_before, FileEntry, FileRun, HasFileRun, FileRunIsOnly, FileOrderIsOpen, HasRun}
 use Rattle.cbs_servers.proofs.Windows.{account-zero, account-suc, eligible-is}
 
 -- two runs that agree below x
@@ -103,7 +103,8 @@ runs_agree s n run other a b (suc x) l y m =
 pub file_run_is_only : FileRunIsOnly
 unfolding Agree
 file_run_is_only s n run other a b =
-    ext_get_or None run other (a.long ∙ sym b.long) (λ x l. runs_agree s n run other a b n (omega arith) x (omega (arith, l, a.long)))
+    ext_get_or None run other (a.long ∙ sym b.long) (λ x l. runs_agree s n run other a b n (omega arith) x
+    (omega (arith, l, a.long)))
 
 -- of the first m places the eligible one that goes first, or that none is eligible
 data First (s : Servers) (run : List (Option ℕ)) (x m : ℕ) : Type 0 where
@@ -116,7 +117,8 @@ first_more : (s : Servers) (run : List (Option ℕ)) (x m : ℕ) → is_eligible
     → First s run x (suc m)
 first_more s run x m e (none h) =
     one m (omega arith) e (λ u l g. elim (cases_eq u m) [
-      | inl q ↦ not_before s run x u m (omega (arith, ap (λ (w : ℕ). (account s run w x).due) q)) (λ _. omega (arith, q))
+      | inl q ↦ not_before s run x u m (omega (arith, ap (λ (w : ℕ). (account s run w x).due) q))
+          (λ _. omega (arith, q))
       | inr ne ↦ absurd (both_ways _ (h u (omega (arith, l, ne))) g)
     ])
 first_more s run x m e (one v lv i h) = elim (cases_lt (account s run m x).due (account s run v x).due) [

@@ -3,10 +3,10 @@ use Rattle.std.proofs.Common.{◌≡◌, ℕ, ◌+◌, ◌-◌, ◌*◌, ◌<◌
 use Rattle.std.proofs.lemmas.Bool.{cases_lt, cases_Bool, and_parts, and_from, both_ways, eq-eqb, false≢true, or_parts, or_cases, cond-true, cond-false, leb-true, leb-false, ltb-true, ltb-false, eqb-true}
 use Rattle.cbs_servers.specs.Cbs.{Account, renewed, is_renewed, comes_back, next_due, brought_back, at_moment, after_slot}
 
--- How a server stands at a moment of a window that begins at t, in which each slot goes to a deadline
--- up to d: it has had nothing there and is not eligible by d; or what it had and what is left are
--- within its share up to its deadline, which is up to d; or its deadline is past d, and what it had
--- is within its share up to d.
+-- How a server stands at a moment of a window that begins at t, in which each slot goes to a
+-- deadline up to d: it has had nothing there and is not eligible by d; or what it had and what is
+-- left are within its share up to its deadline, which is up to d; or its deadline is past d, and
+-- what it had is within its share up to d.
 pub data Stands (budget period t d got : ℕ) (up : Bool) (a : Account) : Type 0 where
   untouched : got ≡ 0 → (up ≡ true → 1 ≤ a.left → d < a.due) → Stands budget period t d got up a
   within : a.due ≤ d → (got + a.left) * period + t * budget ≤ a.due * budget → Stands budget period t d got up a
@@ -34,7 +34,8 @@ slot_stands budget period t d got up true a may (past l h) =
 
 -- what a moment makes of an account: it is renewed at a wake-up, its budget comes back, or it stays
 pub data Turn (budget period x : ℕ) (wakes : Bool) (a b : Account) : Type 0 where
-  renews : wakes ≡ true → a.due ≤ x ⊎ ((x < a.due) × ((a.due - x) * budget < a.left * period)) → b ≡ renewed budget period x
+  renews : wakes ≡ true → a.due ≤ x ⊎ ((x < a.due) × ((a.due - x) * budget < a.left * period))
+      → b ≡ renewed budget period x
       → Turn budget period x wakes a b
   returns : a.left ≡ 0 → a.due ≤ x → b ≡ brought_back budget period x a → Turn budget period x wakes a b
   stays : (wakes ≡ true → (x < a.due) × (a.left * period ≤ (a.due - x) * budget)) → (a.left ≡ 0 → a.due ≤ x → ⊥)
@@ -73,7 +74,8 @@ unwoken budget period x wakes a h = elim (cases_Bool (comes_back x a)) [
   | inl e ↦
       let p = and_parts (a.left == 0) (nat_le a.due x) e in
       returns (eqb-true _ _ p.0) (leb-true _ _ p.1) (cond-true {A = Account} _ _ _ e)
-  | inr e ↦ stays h (λ z q. both_ways _ e (and_from _ _ (eq-eqb _ _ z) (le-leb _ _ q))) (cond-false {A = Account} _ _ _ e)
+  | inr e ↦ stays h (λ z q. both_ways _ e (and_from _ _ (eq-eqb _ _ z) (le-leb _ _ q)))
+      (cond-false {A = Account} _ _ _ e)
 ]
 
 pub turn : (budget period x : ℕ) (wakes : Bool) (a : Account)
@@ -161,7 +163,8 @@ pub moment_stands : (budget period t d x got : ℕ) (up next : Bool) (a b : Acco
 moment_stands budget period t d x got up next a b l s o n (renews y why e) (untouched z h) =
     subst (Stands budget period t d got next) (sym e) (fresh_stands budget period t d x got next l z)
 moment_stands budget period t d x got up next a b l s o n (returns none here e) (untouched z h) =
-    subst (Stands budget period t d got next) (sym (returned budget period x a b (omega (arith, n none)) e)) (fresh_stands budget period t d x got next l z)
+    subst (Stands budget period t d got next) (sym (returned budget period x a b (omega (arith, n none)) e))
+    (fresh_stands budget period t d x got next l z)
 moment_stands budget period t d x got up next a b l s o n (stays h u e) (untouched z k) =
     subst (Stands budget period t d got next) (sym e) (untouched_stays budget period t d x got up next a l h z k)
 moment_stands budget period t d x got up next a b l s o n (renews y why e) (within m h) =
@@ -170,7 +173,8 @@ moment_stands budget period t d x got up next a b l s o n (renews y why e) (with
     (omega (arith, h, mul-le-mul_right budget m)))
 moment_stands budget period t d x got up next a b l s o n (returns none here e) (within m h) =
     subst (Stands budget period t d got next) (sym (returned budget period x a b (omega (arith, n none)) e))
-    (renewed_stands budget period t d x got next (omega (arith, h, ap (λ (z : ℕ). z * budget) (let q : a.due ≡ x = omega (arith, n none) in q)))
+    (renewed_stands budget period t d x got next (omega
+    (arith, h, ap (λ (z : ℕ). z * budget) (let q : a.due ≡ x = omega (arith, n none) in q)))
     (omega (arith, h, mul-le-mul_right budget m)))
 moment_stands budget period t d x got up next a b l s o n (stays k u e) (within m h) =
     subst (Stands budget period t d got next) (sym e) (within m h)
@@ -178,6 +182,7 @@ moment_stands budget period t d x got up next a b l s o n (renews y why e) (past
     subst (Stands budget period t d got next) (sym e)
     (past (let q = later budget period x a s o why in omega arith) h)
 moment_stands budget period t d x got up next a b l s o n (returns none here e) (past m h) =
-    subst (Stands budget period t d got next) (sym (returned budget period x a b (omega (arith, n none)) e)) (past (let q = n none in omega arith) h)
+    subst (Stands budget period t d got next) (sym (returned budget period x a b (omega (arith, n none)) e))
+    (past (let q = n none in omega arith) h)
 moment_stands budget period t d x got up next a b l s o n (stays k u e) (past m h) =
     subst (Stands budget period t d got next) (sym e) (past m h)

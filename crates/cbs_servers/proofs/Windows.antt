@@ -48,7 +48,12 @@ left-le s run v zero =
     (turn (s.budget v) (s.period v) 0 (wakes s v 0) no_account) (omega arith))
 left-le s run v (suc x) =
     let a : Account = after_slot (holds (held run x) v) (account s run v x) in
-    let m : a.left ≤ s.budget v = omega (arith, after_slot-le (holds (held run x) v) (account s run v x), left-le s run v x) in
+    let m : a.left ≤ s.budget v = omega (
+      arith,
+      after_slot-le (holds (held run x) v)
+          (account s run v x),
+      left-le s run v x,
+    ) in
     subst (λ (b : Account). b.left ≤ s.budget v) (sym (account-suc s run v x))
     (at_moment-le (s.budget v) (s.period v) (suc x) (wakes s v (suc x)) a _
     (turn (s.budget v) (s.period v) (suc x) (wakes s v (suc x)) a) m)
@@ -90,7 +95,8 @@ got_none t run v y l =
       arith,
       ap (λ (z : ℕ). got t run v z) e,
       count_stretch (λ z. holds (seen t run z) v) false 0 y
-          (λ z _ m. ap (λ (o : Option ℕ). holds o v) (cond-false {A = Option ℕ} (leb t z) _ _ (lt-leb _ _ (omega arith)))),
+          (λ z _ m. ap (λ (o : Option ℕ). holds o v) (cond-false {A = Option ℕ} (leb t z) _ _
+          (lt-leb _ _ (omega arith)))),
       sum_below-zero (λ z. cond (holds (seen t run z) v) 1 0),
     )
 
@@ -136,17 +142,21 @@ module _ (s : Servers) (servers : AreServers s) (n : ℕ) (run : List (Option �
 
   -- from a slot of the window to the next, where it is awake there, or counts as awake since it was
   -- before
-  next_stands : (y : ℕ) → t ≤ suc y → suc y ≤ x → (have : ℕ) (next : Bool) → (next && not (s.awake v y)) ≡ wakes s v (suc y)
+  next_stands : (y : ℕ) → t ≤ suc y → suc y ≤ x → (have : ℕ) (next : Bool) → (next && not (s.awake v y)) ≡ wakes s v
+      (suc y)
       → StandsAt y have (s.awake v y) (after_slot (holds (held run y) v) (account s run v y))
       → StandsAt (suc y) have next (account s run v (suc y))
   next_stands y l m have next e h =
       subst (StandsAt (suc y) have next) (sym (account-suc s run v y))
       (moment_stands (s.budget v) (s.period v) t d (suc y) have (s.awake v y) next
       (after_slot (holds (held run y) v) (account s run v y)) _ l
-      (omega (arith, after_slot-le (holds (held run y) v) (account s run v y), left-le s run v y)) (servers.some v is) (w.on_time v (suc y) is m)
-      (subst (λ (b : Bool). Turn (s.budget v) (s.period v) (suc y) b (after_slot (holds (held run y) v) (account s run v y))
+      (omega (arith, after_slot-le (holds (held run y) v) (account s run v y), left-le s run v y)) (servers.some v is)
+      (w.on_time v (suc y) is m)
+      (subst (λ (b : Bool). Turn (s.budget v) (s.period v) (suc y) b
+      (after_slot (holds (held run y) v) (account s run v y))
       (account_from s v (suc y) (after_slot (holds (held run y) v) (account s run v y)))) (sym e)
-      (turn (s.budget v) (s.period v) (suc y) (wakes s v (suc y)) (after_slot (holds (held run y) v) (account s run v y)))) h)
+      (turn (s.budget v) (s.period v) (suc y) (wakes s v (suc y))
+      (after_slot (holds (held run y) v) (account s run v y)))) h)
 
   -- what holds a slot of the window is eligible, and due by d
   may_run : (y : ℕ) → t ≤ y → y < x → holds (get_or run y None) v ≡ true
@@ -215,7 +225,8 @@ pub data IsUp (s : Servers) (v x : ℕ) : Type 0 where
   before : (y : ℕ) → x ≡ suc y → s.awake v y ≡ true → IsUp s v x
 
 pub stands_up : (s : Servers) → AreServers s → (n : ℕ) (run : List (Option ℕ)) (d t x : ℕ) → Window s n run d t x
-    → (v : ℕ) → IsServer s v → IsUp s v x → Stands (s.budget v) (s.period v) t d (got t run v x) true (account s run v x)
+    → (v : ℕ) → IsServer s v → IsUp s v x → Stands (s.budget v) (s.period v) t d (got t run v x) true
+    (account s run v x)
 stands_up s servers n run d t x w v is (now u) =
     subst (λ (b : Bool). Stands (s.budget v) (s.period v) t d (got t run v x) b (account s run v x)) u
     (stands_at s servers n run d t x w v is x w.in_order (omega arith))

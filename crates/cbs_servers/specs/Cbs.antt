@@ -57,7 +57,8 @@ at_moment budget period x wakes a =
 abbrev pub after_slot : Bool → Account → Account
 after_slot has_core a = if has_core then record { left = a.left - 1; due = a.due } else a
 
--- server v wakes at moment x: it is awake in slot x, and was not in the slot before, if there is one
+-- server v wakes at moment x: it is awake in slot x, and was not in the slot before, or there is
+-- none before
 abbrev pub was_awake : Servers → ℕ → ℕ → Bool
 was_awake s v zero = false
 was_awake s v (suc x) = s.awake v x

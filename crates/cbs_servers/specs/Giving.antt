@@ -26,7 +26,8 @@ InEachRun Says =
     (s : Servers) (n : ℕ) (run : List (Option ℕ)) (v : ℕ) → AreServers s → SharesFit s →
     CbsRun s n run → IsServer s v → Says s n run v
 
--- in each slot in which a server is eligible, its core has room before its deadline for what is left
+-- in each slot in which a server is eligible, the slots up to its deadline are enough for what is
+-- left
 abbrev pub NeverLate : Type 0
 NeverLate = InEachRun (λ s n run v.
     (x : ℕ) → x < n → is_eligible s run v x ≡ true →

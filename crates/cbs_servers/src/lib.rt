@@ -1,4 +1,5 @@
-//! Constant bandwidth servers on one full core: theorems, as contracts of functions that do nothing.
+//! Constant bandwidth servers on one full core: theorems, as contracts of functions that do
+//! nothing.
 #![tactic(auto)]
 
 ghost use Rattle.cbs_servers.specs.Cbs.{HasFileRun, FileRunIsOnly, FileOrderIsOpen, HasRun};
