@@ -7,3 +7,6 @@ pub mod BusySupply
 pub mod Gives
 pub mod Runs
 mod Examples
+mod OverrunSteps
+pub mod LateByOthers
+pub mod Scaled

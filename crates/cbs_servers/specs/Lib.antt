@@ -1,2 +1,3 @@
 pub mod Cbs
 pub mod Giving
+pub mod Overrun
