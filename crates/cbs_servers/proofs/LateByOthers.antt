@@ -26,20 +26,20 @@ unfolding grant_of
 grant-suc s run v x = refl
 
 -- what tests say
-awake-is : (s : Servers) (v x : ℕ) → is_awake s v x ≡ true → IsServer s v × (s.awake v x ≡ true)
+pub awake-is : (s : Servers) (v x : ℕ) → is_awake s v x ≡ true → IsServer s v × (s.awake v x ≡ true)
 awake-is s v x e =
     let q = and_parts (nat_lt v s.count && s.is_server v) (s.awake v x) e in
     let o = and_parts (nat_lt v s.count) (s.is_server v) q.0 in
     (record { below = ltb-true _ _ o.0; is_one = o.1 }, q.1)
 
-left-is : (s : Servers) (run : List (Option ℕ)) (v x : ℕ) → has_left s run v x ≡ true
+pub left-is : (s : Servers) (run : List (Option ℕ)) (v x : ℕ) → has_left s run v x ≡ true
     → IsServer s v × (s.awake v x ≡ true) × ((grant s run v x).used < (grant s run v x).granted)
 left-is s run v x e =
     let p = and_parts (is_awake s v x) (nat_lt (grant s run v x).used (grant s run v x).granted) e in
     let a = awake-is s v x p.0 in
     (a.0, a.1, ltb-true _ _ p.1)
 
-may-is : (s : Servers) (over : ℕ → ℕ) (run : List (Option ℕ)) (v x : ℕ) → may_run s over run v x ≡ true
+pub may-is : (s : Servers) (over : ℕ → ℕ) (run : List (Option ℕ)) (v x : ℕ) → may_run s over run v x ≡ true
     → IsServer s v × (s.awake v x ≡ true) × ((grant s run v x).used < (grant s run v x).granted + over v)
 may-is s over run v x e =
     let p = and_parts (is_awake s v x) (nat_lt (grant s run v x).used ((grant s run v x).granted + over v)) e in

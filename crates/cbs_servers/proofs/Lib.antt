@@ -10,3 +10,4 @@ mod Examples
 mod OverrunSteps
 pub mod LateByOthers
 pub mod Scaled
+mod NoOverrun

@@ -114,7 +114,7 @@ woken budget period x true p h = elim (cases_Bool (is_given_up budget period x p
 ]
 
 -- a whole grant that is given up at once is the same
-whole_again : (budget period x : ℕ) (w : Bool) → 1 ≤ budget → 1 ≤ period
+pub whole_again : (budget period x : ℕ) (w : Bool) → 1 ≤ budget → 1 ≤ period
     → at_wake budget period x w (whole_grant budget period x) ≡ whole_grant budget period x
 whole_again budget period x w o r = elim (cases_Bool (w && is_given_up budget period x (whole_grant budget period x))) [
   | inl e ↦ cond-true {A = Grant} _ _ _ e
