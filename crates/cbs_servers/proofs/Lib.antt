@@ -9,5 +9,5 @@ pub mod Runs
 mod Examples
 mod OverrunSteps
 pub mod LateByOthers
-pub mod Scaled
+mod Parts
 mod NoOverrun

@@ -1,3 +1,4 @@
 pub mod Cbs
 pub mod Giving
 pub mod Overrun
+pub mod Parts

@@ -4,6 +4,8 @@
 
 ghost use Rattle.cbs_servers.specs.Cbs.{HasFileRun, FileRunIsOnly, FileOrderIsOpen, HasRun};
 ghost use Rattle.cbs_servers.specs.Giving.{NeverLate, NeverShort, GivesWhatIsLeft, GivesBusy, GivesFresh};
+ghost use Rattle.cbs_servers.specs.Overrun.{LateByOthers, NoneOverIsCbs, GrantsAreAccounts};
+ghost use Rattle.cbs_servers.specs.Parts.{GrantsAtSlots, GrantsInSlots};
 
 /// Over each number of slots there is just one run by the order of the file, and it is one of those
 /// in which ties are open.
@@ -27,4 +29,15 @@ pub fn keeps_budgets()
 pub fn gives_supply()
     ensures busy { GivesBusy }
     ensures fresh { GivesFresh }
+{}
+
+/// Where servers may run past their budgets before they are stopped, one that is awake is late by no
+/// more than what the others may run over, all together. Where none does, all is as above; and in a
+/// smaller unit grants are the same.
+pub fn carries_overruns()
+    ensures late { LateByOthers }
+    ensures none_over { NoneOverIsCbs }
+    ensures accounts { GrantsAreAccounts }
+    ensures at_slots { GrantsAtSlots }
+    ensures in_slots { GrantsInSlots }
 {}
