@@ -102,12 +102,12 @@ throttled_asleep : (account (sleeps 2 30) two_slots 0 9 ≡ has 0 10) × (accoun
 unfolding account
 throttled_asleep = (refl, refl, refl)
 
-abbrev pick : ℕ → ℕ → ℕ → ℕ
+abbrev pub pick : ℕ → ℕ → ℕ → ℕ
 pick a b zero = a
 pick a b (suc v) = b
 
 -- two servers that are always awake
-abbrev two : (b p c q : ℕ) → Servers
+abbrev pub two : (b p c q : ℕ) → Servers
 two b p c q = record {
   count = 2;
   is_server = λ v. true;

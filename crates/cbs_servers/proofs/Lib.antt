@@ -11,3 +11,4 @@ mod OverrunSteps
 pub mod LateByOthers
 mod Parts
 mod NoOverrun
+mod OverrunExamples
