@@ -9,7 +9,7 @@ use Rattle.slot_model.proofs.Runs.{back_to, holds-is}
 use Rattle.slot_model.proofs.Served.{served_le}
 use Rattle.slot_model.proofs.Counts.{count_stretch}
 use Rattle.cbs_servers.specs.Cbs.{Servers, IsServer, wakes}
-use Rattle.cbs_servers.specs.Giving.{AreServers, SharesFit}
+use Rattle.cbs_servers.specs.Giving.{AreServers}
 use Rattle.cbs_servers.specs.Overrun.{Grant, no_grant, grant_at, grant_after, grant_of, grant, is_awake, has_left, may_run, OverrunRun, LateByOthers}
 use Rattle.cbs_servers.proofs.OverrunSteps.{Owes, untouched, within, past, Fair, Nearly, slot_owes, moves, moment_owes, fair_moves, nearly_ran}
 use Rattle.cbs_servers.proofs.Windows.{seen, got, got_none, got_next}
@@ -21,7 +21,8 @@ grant-zero s run v = refl
 
 pub grant-suc : (s : Servers) (run : List (Option ℕ)) (v x : ℕ)
     → grant s run v (suc x)
-    ≡ grant_at (s.budget v) (s.period v) (suc x) (wakes s v (suc x)) (grant_after (holds (held run x) v) (grant s run v x))
+    ≡ grant_at (s.budget v) (s.period v) (suc x) (wakes s v (suc x))
+    (grant_after (holds (held run x) v) (grant s run v x))
 unfolding grant_of
 grant-suc s run v x = refl
 
@@ -154,7 +155,8 @@ module _ (s : Servers) (servers : AreServers s) (over : ℕ → ℕ) (n : ℕ) (
         subst (λ (u : ℕ). (grant s run u y).due ≤ d) q b.by,
       )
 
-  -- before the window: one that is awake by d has nothing left and did not run, and its deadline is to come
+  -- before the window: one that is awake by d has nothing left and did not run, and its deadline is
+  -- to come
   before_owes : (y : ℕ) → suc y ≡ t → y < n
       → OwesAt 0 (s.awake v y) (grant_after (holds (held run y) v) (grant s run v y))
   before_owes y e ly = elim (cases_lt d (grant s run v y).due) [
@@ -242,7 +244,8 @@ all_got s over n run d t x w =
     each y l q =
         let b = w.busy y (leb-true _ _ q) l in (
           b.server,
-          (may-is s over run b.server y ((w.is_run.each y (omega (arith, w.in_run))).named b.server b.holds_it)).0.below,
+          (may-is s over run b.server y ((w.is_run.each y
+              (omega (arith, w.in_run))).named b.server b.holds_it)).0.below,
           cond-true {A = Option ℕ} (leb t y) _ _ q ∙ b.holds_it,
           refl,
         )
@@ -268,7 +271,8 @@ had_of : (budget period t d over had : ℕ) (up : Bool) (g : Grant) → up ≡ t
 had_of budget period t d over had up g u some e (untouched z h) = absurd (let q = h u in omega arith)
 had_of budget period t d over had up g u some e (within m h) =
     let f : (g.granted - g.used) * period + g.used * period ≡ g.granted * period
-    = (let q : (g.granted - g.used) + g.used ≡ g.granted = omega arith in omega (arith, ap (λ (n : ℕ). n * period) q)) in
+    = (let q : (g.granted - g.used) + g.used ≡ g.granted = omega arith in omega
+    (arith, ap (λ (n : ℕ). n * period) q)) in
     omega (arith, h, f, ap (λ (n : ℕ). n * budget) e)
 had_of budget period t d over had up g u some e (past m h) = absurd (omega arith)
 

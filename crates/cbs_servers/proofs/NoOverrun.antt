@@ -1,9 +1,9 @@
 -- Where no server runs past its budget, the grants tell the accounts, and the runs are the same.
-use Rattle.std.proofs.Common.{◌≡◌, ◌⊎◌, ℕ, zero, suc, ◌+◌, ◌-◌, ◌*◌, ◌/◌, ◌<◌, ◌≤◌, ◌==◌, nat_lt, nat_le, Bool, true, false, if◌then◌else◌, ◌&&◌, ◌||◌, List, Option, arith, refl, sym, ◌∙◌, ap, subst, inl, inr, lt-ltb, le-ltb, le-leb, mul-le-mul_right}
-use Rattle.std.proofs.lemmas.Bool.{cases_lt, cases_eq, cases_Bool, and_parts, and_from, or_parts, or_left, both_ways, cond-true, cond-false, leb-true, leb-false, ltb-false, eqb-true, eq-eqb}
+use Rattle.std.proofs.Common.{◌≡◌, ℕ, zero, suc, ◌+◌, ◌-◌, ◌*◌, ◌/◌, ◌<◌, ◌≤◌, ◌==◌, nat_lt, nat_le, Bool, true, false, if◌then◌else◌, ◌&&◌, ◌||◌, List, Option, arith, refl, sym, ◌∙◌, ap, subst, inl, inr, lt-ltb, le-ltb, le-leb, mul-le-mul_right}
+use Rattle.std.proofs.lemmas.Bool.{cases_lt, cases_eq, cases_Bool, and_parts, and_from, or_parts, or_left, cond-true, cond-false, leb-true, leb-false, ltb-false, eqb-true, eq-eqb}
 use Rattle.slot_model.specs.Run.{held, holds}
 use Rattle.slot_model.proofs.Runs.{holds-is}
-use Rattle.cbs_servers.specs.Cbs.{Servers, IsServer, Account, renewed, is_renewed, comes_back, next_due, brought_back, at_moment, after_slot, no_account, account_from, wakes, account, is_eligible, CbsRun}
+use Rattle.cbs_servers.specs.Cbs.{Servers, IsServer, Account, renewed, is_renewed, comes_back, brought_back, at_moment, after_slot, no_account, account_from, wakes, account, is_eligible, CbsRun}
 use Rattle.cbs_servers.specs.Giving.{AreServers}
 use Rattle.cbs_servers.specs.Overrun.{Grant, no_grant, whole_grant, is_used_up, times_granted, granted_more, caught_up, at_deadline, is_given_up, at_wake, grant_at, grant_after, grant, is_awake, has_left, may_run, no_overrun, OverrunRun, NoneOverIsCbs, TellsAccount, GrantsAreAccounts}
 use Rattle.cbs_servers.proofs.Windows.{account-zero, account-suc, eligible-is}
@@ -73,14 +73,16 @@ module _ (budget period x : ℕ) (a : Account) (g : Grant) (o : 1 ≤ budget) (t
   ]
 
   -- at a wake-up
-  tells_new : 1 ≤ period → TellsAccount (renewed budget period x) (at_wake budget period x true (caught_up budget period x more))
+  tells_new : 1 ≤ period → TellsAccount (renewed budget period x)
+      (at_wake budget period x true (caught_up budget period x more))
   tells_new r = elim (cases_lt (a.due + period) x) [
     | inl l ↦
         subst (TellsAccount (renewed budget period x))
         (sym (ap (at_wake budget period x true) (past_too l) ∙ whole_again budget period x true o r))
         (tells_whole budget period x)
     | inr l ↦
-        subst (λ (h : Grant). TellsAccount (renewed budget period x) (at_wake budget period x true h)) (sym (not_past l))
+        subst (λ (h : Grant). TellsAccount (renewed budget period x) (at_wake budget period x true h))
+        (sym (not_past l))
         (elim (cases_Bool (is_given_up budget period x more)) [
           | inl e ↦
               subst (TellsAccount (renewed budget period x)) (sym (cond-true {A = Grant} _ _ _ e))
@@ -118,7 +120,8 @@ module _ (budget period x : ℕ) (a : Account) (g : Grant) (tells : TellsAccount
     | inr e ↦ cond-false {A = Grant} _ _ _ e
     | inl e ↦
         let p = and_parts (nat_le g.granted g.used) (nat_le g.due x) e in
-        absurd (not_here (omega (arith, leb-true _ _ p.0, tells.left_is)) (omega (arith, leb-true _ _ p.1, tells.due_is)))
+        absurd (not_here (omega (arith, leb-true _ _ p.0, tells.left_is))
+        (omega (arith, leb-true _ _ p.1, tells.due_is)))
   ]
 
   not_back : comes_back x a ≡ false
@@ -214,9 +217,11 @@ module _ (s : Servers) (run : List (Option ℕ)) (x : ℕ)
       → nat_lt (grant s run v x).used (grant s run v x).granted ≡ nat_lt 0 (account s run v x).left
   same_left v is = elim (cases_lt 0 (account s run v x).left) [
     | inl l ↦
-        lt-ltb (grant s run v x).used (grant s run v x).granted (omega (arith, l, (tells v is).left_is)) ∙ sym (lt-ltb _ _ l)
+        lt-ltb (grant s run v x).used (grant s run v x).granted (omega (arith, l, (tells v is).left_is)) ∙ sym
+        (lt-ltb _ _ l)
     | inr l ↦
-        le-ltb (grant s run v x).used (grant s run v x).granted (omega (arith, l, (tells v is).left_is)) ∙ sym (le-ltb _ _ l)
+        le-ltb (grant s run v x).used (grant s run v x).granted (omega (arith, l, (tells v is).left_is)) ∙ sym
+        (le-ltb _ _ l)
   ]
 
   same_eligible : (v : ℕ) → has_left s run v x ≡ is_eligible s run v x

@@ -1,4 +1,5 @@
--- Worked grants of a server of 2 slots in 10, and runs of two servers that may run over by one slot.
+-- Worked grants of a server of 2 slots in 10, and runs of two servers that may run over by one
+-- slot.
 use Rattle.std.proofs.Common.{◌≡◌, ℕ, zero, suc, ◌+◌, ◌-◌, ◌≤◌, true, false, List, [], ◌∷◌, Option, Some, refl, sym, ◌∙◌, subst, arith, le-ltb, lit≤}
 use Rattle.std.proofs.lemmas.Bool.{false≢true, and_left}
 use Rattle.slot_model.specs.Slots.{sum_below}
@@ -10,7 +11,8 @@ has due granted used = record { due = due; granted = granted; used = used }
 
 -- At its deadline a server that used its budget has a new one. One that used a slot too many has a
 -- slot less, and one that used a whole budget too many has that of the period behind the next one.
-granted_at_the_deadline : (grant_at 2 10 10 false (has 10 2 2) ≡ has 20 2 0) × (grant_at 2 10 10 false (has 10 2 3) ≡ has 20 1 0)
+granted_at_the_deadline : (grant_at 2 10 10 false (has 10 2 2) ≡ has 20 2 0) ×
+    (grant_at 2 10 10 false (has 10 2 3) ≡ has 20 1 0)
     × (grant_at 2 10 10 false (has 10 2 4) ≡ has 30 2 0)
 granted_at_the_deadline = (refl, refl, refl)
 
@@ -18,7 +20,8 @@ not_before_it : grant_at 2 10 9 false (has 10 2 3) ≡ has 10 2 3
 not_before_it = refl
 
 -- one that is used up behind its deadline has its next grant then, or a new one where that is past
-granted_behind_it : (grant_at 2 10 20 false (has 10 2 3) ≡ has 20 1 0) × (grant_at 2 10 21 false (has 10 2 3) ≡ has 31 2 0)
+granted_behind_it : (grant_at 2 10 20 false (has 10 2 3) ≡ has 20 1 0) ×
+    (grant_at 2 10 21 false (has 10 2 3) ≡ has 31 2 0)
 granted_behind_it = (refl, refl)
 
 -- A wake-up keeps what is within its share, also of a grant that is overrun. So a slot too many is
@@ -27,7 +30,8 @@ kept_at_a_wake_up : (grant_at 2 10 5 true (has 10 2 1) ≡ has 10 2 1) × (grant
     × (grant_at 2 10 12 true (has 10 2 3) ≡ has 20 1 0)
 kept_at_a_wake_up = (refl, refl, refl)
 
-given_up_at_a_wake_up : (grant_at 2 10 6 true (has 10 2 1) ≡ has 16 2 0) × (grant_at 2 10 12 true (has 10 2 1) ≡ has 22 2 0)
+given_up_at_a_wake_up : (grant_at 2 10 6 true (has 10 2 1) ≡ has 16 2 0) ×
+    (grant_at 2 10 12 true (has 10 2 1) ≡ has 22 2 0)
 given_up_at_a_wake_up = (refl, refl)
 
 starts_with_a_whole_one : grant_at 2 10 3 true no_grant ≡ has 13 2 0
@@ -40,8 +44,8 @@ a_slot_is_used = (refl, refl)
 abbrev by_one : ℕ → ℕ
 by_one v = 1
 
--- Of servers of 2 in 4 and 2 in 8 the first has had its budget in slots 0 and 1. It may go on in slot
--- 2, since the other is due later, and not in slot 3.
+-- Of servers of 2 in 4 and 2 in 8 the first has had its budget in slots 0 and 1. It may go on in
+-- slot 2, since the other is due later, and not in slot 3.
 abbrev run : List (Option ℕ)
 run = Some 0 ∷ Some 0 ∷ Some 0 ∷ []
 
@@ -65,7 +69,8 @@ it_may_hold_the_slot = record {
     sooner zero h = lit≤ tt
     sooner (suc zero) h = lit≤ tt
     sooner (suc (suc u)) h =
-        absurd (false≢true (sym (and_left _ _ (and_left _ _ (and_left _ _ (le-ltb (suc (suc u)) 2 (omega arith))))) ∙ h))
+        absurd (false≢true (sym (and_left _ _ (and_left _ _ (and_left _ _ (le-ltb (suc (suc u)) 2 (omega arith)))))
+        ∙ h))
 
 -- not where the other is due sooner and has something left
 not_before_the_other : OverrunEntry (two 2 8 2 4) by_one run 2 (Some 0) → ⊥

@@ -10,8 +10,8 @@ pub data Owes (budget period t d over got : ℕ) (up : Bool) (g : Grant) : Type 
       → Owes budget period t d over got up g
   past : d < g.due → got * period + t * budget ≤ d * budget + over * period → Owes budget period t d over got up g
 
--- what each grant keeps after a moment x: no more than a budget is granted, no more is used than may
--- be, and where all is used the deadline is still to come
+-- what each grant keeps after a moment x: no more than a budget is granted, no more is used than
+-- may be, and where all is used the deadline is still to come
 pub record Fair (budget over x : ℕ) (g : Grant) : Type 0 where
   pub most : g.granted ≤ budget
   pub used_up_to : g.used ≤ g.granted + over
@@ -207,7 +207,8 @@ had_share : (budget period t x got : ℕ) (p : Grant)
     → (got + p.granted) * period + t * budget ≤ p.due * budget + p.used * period
     → (got * period + t * budget ≤ x * budget) × (got * period + t * budget ≤ p.due * budget)
 had_share budget period t x got p (inl w) h =
-    let m : p.used * period ≤ p.granted * period = mul-le-mul_right period (let q : p.used ≤ p.granted = omega (arith, w.1) in q) in
+    let m : p.used * period ≤ p.granted * period = mul-le-mul_right period
+    (let q : p.used ≤ p.granted = omega (arith, w.1) in q) in
     let n : p.due * budget ≤ x * budget = mul-le-mul_right budget w.0 in
     (omega (arith, h, m, n), omega (arith, h, m))
 had_share budget period t x got p (inr w) h = elim (cases_lt p.used p.granted) [

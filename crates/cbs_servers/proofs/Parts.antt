@@ -29,7 +29,8 @@ module _ (k budget period : ℕ) (o : 1 ≤ k) where
       (ap (λ (z : ℕ). z / (k * budget)) (sym (mul-sub k g.used g.granted))
       ∙ mul-div-mul_left (g.used - g.granted) budget o)
 
-  scaled_paid : (g : Grant) → granted_more (k * budget) (k * period) (grant_times k g) ≡ grant_times k (granted_more budget period g)
+  scaled_paid : (g : Grant) → granted_more (k * budget) (k * period) (grant_times k g) ≡ grant_times k
+      (granted_more budget period g)
   scaled_paid g =
       let n : ℕ = times_granted budget g in
       let e : times_granted (k * budget) (grant_times k g) ≡ n = scaled_owed g in
@@ -63,10 +64,12 @@ module _ (k budget period : ℕ) (o : 1 ≤ k) where
       → at_deadline (k * budget) (k * period) (k * x) (grant_times k g) ≡ grant_times k (at_deadline budget period x g)
   scaled_deadline x g =
       ap (λ (b : Bool). cond (b && nat_le (k * g.due) (k * x))
-      (caught_up (k * budget) (k * period) (k * x) (granted_more (k * budget) (k * period) (grant_times k g))) (grant_times k g))
+      (caught_up (k * budget) (k * period) (k * x) (granted_more (k * budget) (k * period) (grant_times k g)))
+      (grant_times k g))
       (same_le k g.granted g.used o)
       ∙ (ap (λ (b : Bool). cond (nat_le g.granted g.used && b)
-      (caught_up (k * budget) (k * period) (k * x) (granted_more (k * budget) (k * period) (grant_times k g))) (grant_times k g))
+      (caught_up (k * budget) (k * period) (k * x) (granted_more (k * budget) (k * period) (grant_times k g)))
+      (grant_times k g))
       (same_le k g.due x o)
       ∙ (ap (λ (h : Grant). cond (is_used_up x g) (caught_up (k * budget) (k * period) (k * x) h) (grant_times k g))
       (scaled_paid g)
@@ -94,7 +97,8 @@ module _ (k budget period : ℕ) (o : 1 ≤ k) where
   scaled_wake : (x : ℕ) (w : Bool) (g : Grant)
       → at_wake (k * budget) (k * period) (k * x) w (grant_times k g) ≡ grant_times k (at_wake budget period x w g)
   scaled_wake x w g =
-      ap (λ (b : Bool). cond (w && b) (whole_grant (k * budget) (k * period) (k * x)) (grant_times k g)) (scaled_given_up x g)
+      ap (λ (b : Bool). cond (w && b) (whole_grant (k * budget) (k * period) (k * x)) (grant_times k g))
+      (scaled_given_up x g)
       ∙ (ap (λ (h : Grant). cond (w && is_given_up budget period x g) h (grant_times k g)) (scaled_whole x)
       ∙ scaled_cond (w && is_given_up budget period x g) (whole_grant budget period x) g)
 
@@ -141,16 +145,16 @@ grant_fair : (budget period : ℕ) (wakes runs : ℕ → Bool) → 1 ≤ budget 
 grant_fair budget period wakes runs o r zero = (
   0,
   subst (Fair budget 0 0) (sym (grant_of-zero budget period wakes runs))
-  (fair_moves budget period 0 0 (wakes 0) no_grant _ o (record { most = omega arith; used_up_to = omega arith })
-  (moves budget period 0 (wakes 0) no_grant o r)),
+      (fair_moves budget period 0 0 (wakes 0) no_grant _ o (record { most = omega arith; used_up_to = omega arith })
+      (moves budget period 0 (wakes 0) no_grant o r)),
 )
 grant_fair budget period wakes runs o r (suc x) =
     let (over, f) = grant_fair budget period wakes runs o r x in
     let g : Grant = grant_after (runs x) (grant_of budget period wakes runs x) in (
       g.used,
       subst (Fair budget g.used (suc x)) (sym (grant_of-suc budget period wakes runs x))
-      (fair_moves budget period g.used (suc x) (wakes (suc x)) g _ o
-      (record { most = f.most; used_up_to = omega arith }) (moves budget period (suc x) (wakes (suc x)) g o r)),
+          (fair_moves budget period g.used (suc x) (wakes (suc x)) g _ o
+          (record { most = f.most; used_up_to = omega arith }) (moves budget period (suc x) (wakes (suc x)) g o r)),
     )
 
 module _ (k n budget period : ℕ) (wakes runs fine_wakes fine_runs : ℕ → Bool)
@@ -194,10 +198,12 @@ module _ (k n budget period : ℕ) (wakes runs fine_wakes fine_runs : ℕ → Bo
   in_slot x (suc c) l m e =
       ap fine (let q : k * x + suc c ≡ suc (k * x + c) = omega arith in q)
       ∙ (grant_of-suc (k * budget) (k * period) fine_wakes fine_runs (k * x + c)
-      ∙ (ap (λ (b : Bool). grant_at (k * budget) (k * period) (suc (k * x + c)) b (grant_after (fine_runs (k * x + c)) (fine (k * x + c))))
+      ∙ (ap (λ (b : Bool). grant_at (k * budget) (k * period) (suc (k * x + c)) b
+      (grant_after (fine_runs (k * x + c)) (fine (k * x + c))))
       (ap fine_wakes (let q : suc (k * x + c) ≡ k * x + suc c = omega arith in q)
       ∙ h.no_others x (suc c) l (omega arith) m)
-      ∙ (ap (λ (b : Bool). grant_at (k * budget) (k * period) (suc (k * x + c)) false (grant_after b (fine (k * x + c))))
+      ∙ (ap (λ (b : Bool). grant_at (k * budget) (k * period) (suc (k * x + c)) false
+      (grant_after b (fine (k * x + c))))
       (h.core_so x c l (omega arith))
       ∙ (ap (λ (g : Grant). grant_at (k * budget) (k * period) (suc (k * x + c)) false (grant_after (runs x) g))
       (in_slot x c l (omega arith) e)
@@ -234,15 +240,19 @@ module _ (k n budget period : ℕ) (wakes runs fine_wakes fine_runs : ℕ → Bo
       let e : suc (k * x + c) ≡ k * suc x = omega arith in
       ap fine (sym e)
       ∙ (grant_of-suc (k * budget) (k * period) fine_wakes fine_runs (k * x + c)
-      ∙ (ap (λ (b : Bool). grant_at (k * budget) (k * period) (suc (k * x + c)) b (grant_after (fine_runs (k * x + c)) (fine (k * x + c))))
+      ∙ (ap (λ (b : Bool). grant_at (k * budget) (k * period) (suc (k * x + c)) b
+      (grant_after (fine_runs (k * x + c)) (fine (k * x + c))))
       (ap fine_wakes e ∙ h.wakes_so (suc x) l)
-      ∙ (ap (λ (b : Bool). grant_at (k * budget) (k * period) (suc (k * x + c)) (wakes (suc x)) (grant_after b (fine (k * x + c))))
+      ∙ (ap (λ (b : Bool). grant_at (k * budget) (k * period) (suc (k * x + c)) (wakes (suc x))
+      (grant_after b (fine (k * x + c))))
       (h.core_so x c (omega arith) (omega arith))
-      ∙ (ap (λ (g : Grant). grant_at (k * budget) (k * period) (suc (k * x + c)) (wakes (suc x)) (grant_after (runs x) g))
+      ∙ (ap (λ (g : Grant). grant_at (k * budget) (k * period) (suc (k * x + c)) (wakes (suc x))
+      (grant_after (runs x) g))
       (in_slot x c (omega arith) (omega arith) (at_slots x (omega arith)))
       ∙ (ap (grant_at (k * budget) (k * period) (suc (k * x + c)) (wakes (suc x)))
       (whole_ran (runs x) c (slot x) last)
-      ∙ (ap (λ (z : ℕ). grant_at (k * budget) (k * period) z (wakes (suc x)) (grant_times k (grant_after (runs x) (slot x)))) e
+      ∙ (ap (λ (z : ℕ). grant_at (k * budget) (k * period) z (wakes (suc x))
+      (grant_times k (grant_after (runs x) (slot x)))) e
       ∙ (scaled_moved k budget period h.some (suc x) (wakes (suc x)) (grant_after (runs x) (slot x))
       ∙ ap (grant_times k) (sym (grant_of-suc budget period wakes runs x)))))))))
 

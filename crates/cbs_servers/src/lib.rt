@@ -31,9 +31,9 @@ pub fn gives_supply()
     ensures fresh { GivesFresh }
 {}
 
-/// Where servers may run past their budgets before they are stopped, one that is awake is late by no
-/// more than what the others may run over, all together. Where none does, all is as above; and in a
-/// smaller unit grants are the same.
+/// Where servers may run past their budgets before they are stopped, one that is awake is late by
+/// no more than what the others may run over, all together. Where none does, all is as above; and
+/// in a smaller unit grants are the same.
 pub fn carries_overruns()
     ensures late { LateByOthers }
     ensures none_over { NoneOverIsCbs }

@@ -1,5 +1,5 @@
 -- The runs of both schedulers are just those by their rules.
-use Rattle.std.proofs.Common.{ℕ, List, Option, le-ltb}
+use Rattle.std.proofs.Common.{le-ltb}
 use Rattle.std.proofs.lemmas.Bool.{ltb-false}
 use Rattle.core_rules.specs.Rules.{RtdsByRule, CbsByRule, CbsFileByRule}
 
