@@ -1,3 +1,7 @@
 mod Changes
 mod Told
 mod Built
+mod Meant
+mod Same
+mod Causal
+mod Idle
