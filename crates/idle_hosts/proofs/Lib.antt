@@ -5,3 +5,4 @@ mod Meant
 mod Same
 mod Causal
 mod Idle
+pub mod Hosts
