@@ -6,3 +6,4 @@ mod Same
 mod Causal
 mod Idle
 pub mod Hosts
+mod Examples
