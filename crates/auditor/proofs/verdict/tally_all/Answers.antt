@@ -1,5 +1,5 @@
 use Rattle.std.proofs.Common.{◌≡◌, length, ap, arith}
-use Rattle.auditor.proofs.Counted.{tallies_more}
+use Rattle.auditor.proofs.Totals.{tallies_more}
 use Rattle.auditor.proofs.SoFar.{none_so_far, one_so_far, found_all}
 use Rattle.auditor.proofs.verdict.tally_all.Goals as goal
 
