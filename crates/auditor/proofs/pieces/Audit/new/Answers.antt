@@ -18,5 +18,6 @@ returns c = record {
   system = c.new-watches.ensures.system;
   start = record { plan = c.in_ok-from_slice.field-0.items; watches = c.new-watches.result };
   plan_is = c.in_ok-from_slice.ensures.items ∙ c.budgets.ensures;
+  counted_is = c.new-watches.ensures.counted;
   fed = c.in_ok-feed.ensures;
 }
