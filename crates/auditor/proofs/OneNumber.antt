@@ -98,10 +98,12 @@ module _ (has some : ℕ → Type 0) (n m : ℕ) (h : IsNumberOf has n) (s : IsN
   of_some = clip s.test s.limit
 
   unfolding of_some
+
   some_has : (k : ℕ) → of_some k ≡ true → has k
   some_has k e = all k (clip_has some m k s e)
 
   unfolding of_some
+
   some_count : m ≡ count_below of_some h.limit
   some_count =
       let swap : s.limit + h.limit ≡ h.limit + s.limit = omega arith in
@@ -134,6 +136,7 @@ module _ (has some : ℕ → Type 0) (n m : ℕ) (h : IsNumberOf has n) (s : IsN
   number_few = omega (arith, parts)
 
   unfolding of_some
+
   pub number_less : IsNumberOf (λ k. has k × (some k → ⊥)) (n - m)
   number_less = record {
     test = λ k. h.test k && not (of_some k);

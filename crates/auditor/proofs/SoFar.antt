@@ -90,7 +90,7 @@ module _ (sys : SystemView) (rows : Rows) (watches : Watches) (v : ℕ) (s : SoF
           → IsFinding sys budgets events (told_of s.periods o)
       go None none = (
         λ w f k broken. let so = broken_so sys budgets events w f k broken in none w f k so.0
-        (omega (arith, all, (has_period sys budgets events w f k broken).is_part)) so.1,
+            (omega (arith, all, (has_period sys budgets events w f k broken).is_part)) so.1,
         periods,
       )
       go (Some found) first =
@@ -114,7 +114,7 @@ module _ (sys : SystemView) (rows : Rows) (watches : Watches) (v : ℕ) (s : SoF
           → IsStealFinding sys budgets events (denied_of s.periods o)
       go None none = (
         λ w f k denied. none w f k Over (omega (arith, all, denied.period.is_part)) (denied_breaks sys budgets events w f k
-        plan denied),
+            plan denied),
         periods,
       )
       go (Some found) first = first_denied sys budgets events v found plan (omega (arith, all)) first

@@ -3,7 +3,7 @@ use Rattle.auditor.specs.declared.counted.Counted.TheVariants.{Stolen}
 use Rattle.auditor.specs.declared.steal.StealTally.{StealTally}
 use Rattle.auditor.specs.Steal.{IsStealTally, no_steal_tally}
 use Rattle.auditor.proofs.SoFar.{none_so_far, one_so_far, denied_all}
-use Rattle.auditor.proofs.Tallied.{few_over, steal_tally}
+use Rattle.auditor.proofs.Tallies.{few_over, steal_tally}
 use Rattle.auditor.proofs.Totals.{entries_more}
 use Rattle.auditor.proofs.steal.steal_all.Goals as goal
 

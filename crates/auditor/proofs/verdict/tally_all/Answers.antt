@@ -2,7 +2,7 @@ use Rattle.std.proofs.Common.{◌≡◌, length, ap, arith}
 use Rattle.auditor.specs.declared.counted.Counted.TheVariants.{Core}
 use Rattle.vcpu_watch.specs.Watch.{no_tally}
 use Rattle.auditor.specs.Tally.{IsTally}
-use Rattle.auditor.proofs.Tallied.{core_tally}
+use Rattle.auditor.proofs.Tallies.{core_tally}
 use Rattle.auditor.proofs.Totals.{entries_more}
 use Rattle.auditor.proofs.SoFar.{none_so_far, one_so_far, found_all}
 use Rattle.auditor.proofs.verdict.tally_all.Goals as goal
