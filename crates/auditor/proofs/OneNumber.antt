@@ -94,15 +94,11 @@ count_apart p q n to =
 -- where all that have the one property have the other, so many more have the other alone
 module _ (has some : ℕ → Type 0) (n m : ℕ) (h : IsNumberOf has n) (s : IsNumberOf some m)
     (all : (k : ℕ) → some k → has k) where
-  of_some : ℕ → Bool
+  abbrev of_some : ℕ → Bool
   of_some = clip s.test s.limit
-
-  unfolding of_some
 
   some_has : (k : ℕ) → of_some k ≡ true → has k
   some_has k e = all k (clip_has some m k s e)
-
-  unfolding of_some
 
   some_count : m ≡ count_below of_some h.limit
   some_count =
@@ -134,8 +130,6 @@ module _ (has some : ℕ → Type 0) (n m : ℕ) (h : IsNumberOf has n) (s : IsN
 
   pub number_few : m ≤ n
   number_few = omega (arith, parts)
-
-  unfolding of_some
 
   pub number_less : IsNumberOf (λ k. has k × (some k → ⊥)) (n - m)
   number_less = record {

@@ -9,7 +9,7 @@ use Rattle.tree_model.specs.View.{SystemView}
 use Rattle.trace_file.specs.declared.event.Event.{Event}
 use Rattle.slot_model.specs.Slots.{count_below}
 use Rattle.trace_file.specs.Events.{last_among, starts, moment_of, start_of, end_of, is_started}
-use Rattle.trace_file.specs.Periods.{period_of, count_between, begins, is_clear, HasPeriod}
+use Rattle.trace_file.specs.Periods.{period_of, count_between, begins, is_clear, is_judged, HasPeriod}
 use Rattle.vcpu_watch.specs.declared.tally.Tally.{Tally}
 use Rattle.vcpu_watch.specs.declared.watch.State.{State}
 use Rattle.vcpu_watch.specs.declared.watch.Watch.{Watch}
