@@ -6,4 +6,4 @@ mod tally;
 mod watch;
 
 pub use tally::Tally;
-pub use watch::{Breach, Broken, Reservation, State, Watch};
+pub use watch::{Breach, Broken, Limits, State, Watch};

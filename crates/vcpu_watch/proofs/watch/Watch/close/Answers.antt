@@ -8,6 +8,6 @@ pub returns-clause-tells : goal.returns-clause-tells
 returns-clause-tells c state runs blocks f st t =
     let w = c.args.self.now in
     let breach = c.breach-breach.ensures in
-    rw c.note.ensures (tells_closed runs blocks c.args.reservation.now f w _ _ c.requires.at_end
+    rw c.note.ensures (tells_closed runs blocks c.args.limits.now f w _ _ c.requires.at_end
     (c.count.ensures ∙ ap (counted w.tally 1 (not w.was_blocked) w.got) breach)
     (ap (λ (z : Option Breach). first_broken w.broken z w.from w.got) breach) t)

@@ -8,7 +8,7 @@ pub returns-clause-tells : goal.returns-clause-tells
 returns-clause-tells c runs blocks f st t =
     let w = c.args.self.now in
     let s = c.args.state in
-    let r = c.args.reservation.now in
+    let r = c.args.limits.now in
     let whole = c.args.whole in
     let told
     = tells_over runs blocks r f s w whole c.requires.in_range.some_period (omega (arith, c.requires.some))
