@@ -1,4 +1,5 @@
--- Lists of a row of each place that passes a test, in order: of which parts and cores it is answered.
+-- Lists with a row of each place that passes a test, in order: of which parts and cores it is
+-- answered.
 use Rattle.std.proofs.Common.{◌≡◌, ℕ, suc, ◌+◌, ◌<◌, Bool, true, false, List, [], ◌∷◌, ◌++◌, map, length, get_or, sym, refl, ◌∙◌, ap, arith, subst}
 use Rattle.std.specs.Prelude.{All}
 use Rattle.std.proofs.lemmas.List.{length-map, get_or-map, map-append}

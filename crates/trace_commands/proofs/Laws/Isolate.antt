@@ -45,8 +45,8 @@ same_lists : (a b : List PartIsolation) (c d : List CoreBudgets) → a ≡ b →
     → Path (List PartIsolation × List CoreBudgets) (a, c) (b, d)
 same_lists a b c d rows cores = rw (rows, cores) refl
 
--- there is one list of what parts keep and one of cores, or one first core that is not full under earliest deadline
--- first
+-- there is one list of what parts keep and one of cores, or one first core that is not full under
+-- earliest deadline first
 isolating_decided : (sys : SystemView) (budgets : List ℕ) → IsPlan sys budgets → IsDecided (isolating sys budgets)
 isolating_decided sys budgets plan = record {
   one_value = λ x y p q. same_lists x.0 y.0 x.1 y.1
