@@ -29,7 +29,7 @@ use Rattle.isolation.specs.Answers.{own_core}
 use Rattle.halting.specs.Stolen.{stolen_in, moments_from}
 use Rattle.halting.proofs.Examples.{jobs, legal, own_slots, own_run, none_pending_at_2, permitted}
 use Rattle.isolated_guests.specs.Spared.{has_slot}
-use Rattle.isolated_guests.specs.Short.{budgets_on}
+use Rattle.isolation.specs.Short.{budgets_on}
 use Rattle.isolated_guests.specs.Guests.{HaltingGuest, HaltingServers, HaltingHost}
 use Rattle.isolated_guests.proofs.Spared.{file_order_is_open}
 

@@ -24,7 +24,7 @@ use Rattle.halting.proofs.Halting.{runs_as_admitted, keeps_deadlines}
 use Rattle.isolated_guests.specs.Spared.{RunKind, has_slot, IsSpared, IsSparedInRuns}
 use Rattle.isolated_guests.specs.Guests.{HaltingGuest, HaltingServers, LeafKeeps, InnerKeeps, IsPartOfRun, PartKeeps, HostsKeep, ShortKeep}
 use Rattle.isolated_guests.proofs.Spared.{core_within, file_order_is_open, spared_openly}
-use Rattle.isolated_guests.proofs.Short.{isolated_where_short}
+use Rattle.isolation.proofs.Fits.{isolated_where_short}
 
 module _ (sys : SystemView) (budgets : List ℕ) (keeping : Keeping sys budgets) (rows : List Wake) (n : ℕ)
     (run : List (Option ℕ)) (v : ℕ) (l : v < length sys.parts) (spared : IsSpared sys budgets rows n run v)

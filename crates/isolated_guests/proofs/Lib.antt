@@ -1,8 +1,6 @@
 mod Stolen
 pub mod Spared
 mod InTrace
-mod Fewer
-pub mod Short
 pub mod Kept
 pub mod Answered
 mod Traces

@@ -26,6 +26,7 @@ use Rattle.rtds_model.proofs.Serving.{RunBy, by_place, serves}
 use Rattle.rtds_model.proofs.Windows.{ServesByDeadline}
 use Rattle.isolation.specs.Demand.{no_tie, IsIsolatedBy}
 use Rattle.isolation.specs.Open.{goes_sooner, OpenRun}
+use Rattle.isolation.proofs.Isolated.{open_goes, by_open}
 use Rattle.halting.specs.Stolen.{is_stolen, stolen_in}
 use Rattle.isolated_guests.specs.Spared.{has_slot, IsSpared, IsSparedInRuns, FileOrderIsOpen, IsolatedAreSpared}
 use Rattle.isolated_guests.proofs.Stolen.{is_kept_off, kept_off_few}
@@ -35,31 +36,6 @@ pub core_within : (sys : SystemView) → IsSystem sys → (c q : ℕ) → q < le
     → is_child sys (Core c) q ≡ true → c < length sys.cores
 core_within sys system c q l child =
     subst (λ (p : Parent). Stands sys q p) (child_parent sys c q child) (system.parents q l)
-
--- where ties are left open
-sooner_by_level : (l d p l' d' p' : ℕ) → l < l' → goes_sooner l d p l' d' p' ≡ true
-sooner_by_level l d p l' d' p' h = grind (arith, nat_tests)
-
-sooner_by_end : (l d p l' d' p' : ℕ) → l ≡ l' → d < d' → goes_sooner l d p l' d' p' ≡ true
-sooner_by_end l d p l' d' p' e h = grind (arith, nat_tests)
-
-open_goes : Goes goes_sooner no_tie
-open_goes =
-    record {
-      by_level = sooner_by_level;
-      by_end = λ l d p l' d' p' e h. sooner_by_end l d p l' d' p' e (omega arith);
-      tie_few = λ v u. omega arith;
-      tie_itself = λ v. refl;
-      tie_in_turn = λ v w h. omega arith;
-    }
-
-by_open : (s : Setting) → OpenRun s.sys s.budgets s.rows s.slots s.core s.run → RunBy goes_sooner s
-by_open s is =
-    record {
-      idle = λ x l e. (is.each x l).idle e;
-      named = λ x v l e. (is.each x l).named v e;
-      first = λ x u v l e h. (is.each x l).first u v e h;
-    }
 
 -- what does not go first does not go sooner
 not_sooner : (l d p l' d' p' : ℕ) → goes_first l d p l' d' p' ≡ false → goes_sooner l d p l' d' p' ≡ false

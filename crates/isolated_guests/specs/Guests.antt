@@ -18,7 +18,7 @@ use Rattle.isolation.specs.Open.{OpenRun}
 use Rattle.isolation.specs.Answers.{own_core}
 use Rattle.halting.specs.Halting.{HaltingRun, NoneLost, HasWorkWithin}
 use Rattle.isolated_guests.specs.Spared.{RunKind, has_slot}
-use Rattle.isolated_guests.specs.Short.{FitsShortest}
+use Rattle.isolation.specs.Short.{FitsShortest}
 
 -- The guest on leaf v, in n slots of a run of its core: a legal release, whose jobs it runs by its
 -- scheduler in the slots in which v has the core. It halts only where none of them is pending.

@@ -7,7 +7,7 @@ ghost use Rattle.isolated_guests.specs.Spared.{
   IsolatedAreSpared,
   IsolatedAreSparedInTraces,
 };
-ghost use Rattle.isolated_guests.specs.Short.{IsolatedWhereShort, FewerIsolate};
+ghost use Rattle.isolation.specs.Short.{IsolatedWhereShort, FewerIsolate};
 ghost use Rattle.isolated_guests.specs.Guests.{ShortKeep};
 ghost use Rattle.isolated_guests.specs.Answered.{LinesKeep, YesKeeps};
 ghost use Rattle.isolated_guests.specs.Traces.{KeepsInTraces};

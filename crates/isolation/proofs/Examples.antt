@@ -1,6 +1,7 @@
 -- Worked cores: what is asked of the last slots of a period, who is isolated and by how many, and a
 -- run in which one that is not falls short. A definition that says otherwise breaks one of these.
-use Rattle.std.proofs.Common.{◌≡◌, ℕ, zero, suc, ◌*◌, nat_lt, ◌<◌, ◌≤◌, length, true, false, Bool, Option, Some, None, List, [], ◌∷◌, refl, subst, arith, lit<, lit≤}
+use Rattle.std.proofs.Common.{◌≡◌, ℕ, zero, suc, ◌*◌, nat_lt, ◌<◌, ◌≤◌, length, true, false, Bool, Option, Some, None, List, [], ◌∷◌, refl, sym, subst, arith, lit<, lit≤}
+use Rattle.std.specs.Prelude.{All}
 use Rattle.std.proofs.lemmas.Bool.{and_parts, ltb-true}
 use Rattle.std.proofs.lemmas.Bool.Decides.{nat_tests}
 use Rattle.csv_rows.specs.Last.{last_below}
@@ -27,6 +28,10 @@ use Rattle.isolation.specs.InTrace.{IsRunLength, IsAwakeInTrace, KeepsInTrace, C
 use Rattle.isolation.specs.declared.isolation.Isolation.{Isolation}
 use Rattle.isolation.specs.declared.isolation.Isolation.TheVariants.{Isolated, ByTies, ByBlock}
 use Rattle.isolation.specs.declared.vcpus.PartIsolation.{PartIsolation}
+use Rattle.isolation.specs.declared.budgets.CoreBudgets.{CoreBudgets}
+use Rattle.isolation.specs.Short.{budgets_on, FitsShortest}
+use Rattle.isolation.specs.Budgets.{has_part, used_cores, IsShortest, IsCoreBudgets, AreCoreBudgets}
+use Rattle.isolation.proofs.Sums.{fits_shortest, one_list_of_budgets}
 use Rattle.isolation.specs.Answers.{own_core, vcpus_of, are_isolated}
 use Rattle.trace_file.specs.declared.event.Event.{Event}
 use Rattle.trace_file.specs.declared.event.What.{What}
@@ -319,3 +324,82 @@ whether_each_is_isolated :
     × (are_isolated (keeps 0 (Isolated 3) ∷ keeps 2 (ByTies 4) ∷ []) ≡ false)
     × (are_isolated (keeps 0 ByBlock ∷ keeps 2 (Isolated 4) ∷ []) ≡ false) × (are_isolated [] ≡ true)
 whether_each_is_isolated = (refl, refl, refl, refl)
+
+-- of core 1 a part of 3 slots in 8 and one of 2 in 6, and of core 0 one of 1 in 9; the part of a
+-- part and core 2, on which nothing stands, are not told
+abbrev three_cores : SystemView
+three_cores = record {
+  cores = core ∷ core ∷ core ∷ [];
+  parts =
+      server (on_core 1) 8 3 false ∷ server (on_part 0) 4 1 false ∷ server (on_core 0) 9 1 false
+      ∷ server (on_core 1) 6 2 false ∷ [];
+}
+
+abbrev told : ℕ → ℕ → ℕ → CoreBudgets
+told core budgets shortest = record { core = core; budgets = budgets; shortest = shortest }
+
+abbrev three_budgets : List ℕ
+three_budgets = 3 ∷ 1 ∷ 1 ∷ 2 ∷ []
+
+which_cores : (used_cores three_cores ≡ 0 ∷ 1 ∷ []) × (has_part three_cores 2 ≡ false)
+unfolding sum_below
+which_cores = (refl, refl)
+
+their_sums : (budgets_on three_cores three_budgets 0 ≡ 1) × (budgets_on three_cores three_budgets 1 ≡ 5)
+unfolding sum_below
+their_sums = (refl, refl)
+
+shortest_of_one : IsShortest three_cores 0 9
+shortest_of_one = record {
+  part = 2;
+  is_part = lit< tt;
+  on_core = refl;
+  has_it = refl;
+  least = λ v l on. below v l on;
+}
+  where
+    below : (v : ℕ) → v < 4 → is_child three_cores (Core 0) v ≡ true → 9 ≤ (part_at three_cores v).period
+    below zero l on = cc
+    below (suc zero) l on = cc
+    below (suc (suc zero)) l on = lit≤ tt
+    below (suc (suc (suc zero))) l on = cc
+    below (suc (suc (suc (suc v)))) l on = absurd (omega (arith, l))
+
+shortest_of_two : IsShortest three_cores 1 6
+shortest_of_two = record {
+  part = 3;
+  is_part = lit< tt;
+  on_core = refl;
+  has_it = refl;
+  least = λ v l on. below v l on;
+}
+  where
+    below : (v : ℕ) → v < 4 → is_child three_cores (Core 1) v ≡ true → 6 ≤ (part_at three_cores v).period
+    below zero l on = lit≤ tt
+    below (suc zero) l on = cc
+    below (suc (suc zero)) l on = cc
+    below (suc (suc (suc zero))) l on = lit≤ tt
+    below (suc (suc (suc (suc v)))) l on = absurd (omega (arith, l))
+
+what_is_told : AreCoreBudgets three_cores three_budgets (told 0 1 9 ∷ told 1 5 6 ∷ [])
+what_is_told = record { places_are = sym which_cores.0; each = at }
+  where
+    at : All (IsCoreBudgets three_cores three_budgets) (told 0 1 9 ∷ told 1 5 6 ∷ [])
+    at zero d l = record { sum_is = sym their_sums.0; shortest_is = shortest_of_one }
+    at (suc zero) d l = record { sum_is = sym their_sums.1; shortest_is = shortest_of_two }
+    at (suc (suc k)) d l = absurd (omega (arith, l))
+
+-- and nothing else is told of them
+nothing_else : (rows : List CoreBudgets) → AreCoreBudgets three_cores three_budgets rows
+    → rows ≡ told 0 1 9 ∷ told 1 5 6 ∷ []
+nothing_else rows is = one_list_of_budgets three_cores three_budgets rows _ is what_is_told
+
+-- 5 slots fit in periods of 8 and 6, so each on core 1 is isolated by 5
+each_of_two_fits : FitsShortest three_cores three_budgets 1
+each_of_two_fits =
+    (fits_shortest three_cores three_budgets (told 1 5 6)
+    (record { sum_is = sym their_sums.1; shortest_is = shortest_of_two })).0 (lit≤ tt)
+
+by_five : IsIsolatedBy no_tie three_cores three_budgets 1 3 5
+unfolding sum_below
+by_five = record { in_period = lit≤ tt; enough = lit≤ tt }

@@ -24,7 +24,7 @@ sooner_by_level l d p l' d' p' h = grind (arith, nat_tests)
 sooner_by_end : (l d p l' d' p' : ℕ) → l ≡ l' → d < d' → goes_sooner l d p l' d' p' ≡ true
 sooner_by_end l d p l' d' p' e h = grind (arith, nat_tests)
 
-open_goes : Goes goes_sooner no_tie
+pub open_goes : Goes goes_sooner no_tie
 open_goes =
     record {
       by_level = sooner_by_level;
@@ -34,7 +34,7 @@ open_goes =
       tie_in_turn = λ v w h. omega arith;
     }
 
-by_open : (s : Setting) → OpenRun s.sys s.budgets s.rows s.slots s.core s.run → RunBy goes_sooner s
+pub by_open : (s : Setting) → OpenRun s.sys s.budgets s.rows s.slots s.core s.run → RunBy goes_sooner s
 by_open s is =
     record {
       idle = λ x l e. (is.each x l).idle e;

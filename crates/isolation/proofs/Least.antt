@@ -2,18 +2,18 @@
 use Rattle.std.proofs.Common.{◌≡◌, ℕ, suc, ◌+◌, ◌-◌, ◌<◌, ◌≤◌, ◌==◌, true, false, cond, List, length, arith, inl, inr}
 use Rattle.std.proofs.lemmas.Bool.{cases_Bool, cond-true, cond-false}
 use Rattle.slot_model.specs.Slots.{sum_below}
-use Rattle.slot_model.proofs.Sums.{cond_rises, sum_below-zero, sum_below-suc, sum_below-le, get-le-sum_below}
+use Rattle.slot_model.proofs.Sums.{cond_rises, sum_below-zero, sum_below-le, get-le-sum_below}
 use Rattle.tree_model.specs.declared.place.Place.TheVariants.{Core}
 use Rattle.tree_model.specs.View.{SystemView}
 use Rattle.tree_model.specs.System.{part_at}
 use Rattle.tree_model.specs.Tree.{is_child, budget_at}
 use Rattle.tree_model.specs.Plans.{IsPlan}
 use Rattle.rtds_model.specs.Demand.{deferrable_demand, later}
-use Rattle.isolation.specs.Demand.{no_tie, asked_of, asked, IsIsolatedBy, IsLeastBy, AsksTooMuch}
+use Rattle.isolation.specs.Demand.{no_tie, asked_of, asked, IsIsolatedBy}
 use Rattle.rtds_model.proofs.Demands.{demand_rises}
 use Rattle.isolation.specs.inner.Neighbours.{IsNextOn}
 use Rattle.isolation.proofs.Asked.{asked-own}
-use Rattle.isolation.proofs.Neighbouring.{sum_next}
+use Rattle.isolation.proofs.Neighbouring.{sum_next, sum_with}
 
 module _ (tie : ℕ → ℕ → ℕ) (sys : SystemView) (budgets : List ℕ) (c v : ℕ) where
   -- what part u asks for, if it stands on the core
@@ -27,9 +27,6 @@ module _ (tie : ℕ → ℕ → ℕ) (sys : SystemView) (budgets : List ℕ) (c 
   pub asked_none : (t : ℕ) → asked_by t 0 ≡ 0
   asked_none t = sum_below-zero (part_asks t)
 
-  pub asked_more : (t u : ℕ) → asked_by t (suc u) ≡ asked_by t u + part_asks t u
-  asked_more t u = sum_below-suc (part_asks t) u
-
   -- those ahead of the next one of the core
   pub asked_next : (t from next : ℕ) → IsNextOn sys c from next → asked_by t next ≡ asked_by t from
   asked_next t from next h =
@@ -38,12 +35,8 @@ module _ (tie : ℕ → ℕ → ℕ) (sys : SystemView) (budgets : List ℕ) (c 
   -- and with one of the core ahead of the next
   pub asked_with : (t u next : ℕ) → is_child sys (Core c) u ≡ true → IsNextOn sys c (suc u) next
       → asked_by t next ≡ asked_by t u + asked_of tie v u (part_at sys u).period (budget_at budgets u) t
-  asked_with t u next on h = omega (
-    arith,
-    asked_next t (suc u) next h,
-    asked_more t u,
-    cond-true {A = ℕ} (is_child sys (Core c) u) (asked_of tie v u (part_at sys u).period (budget_at budgets u) t) 0 on,
-  )
+  asked_with t u next on h =
+      sum_with sys (λ w. asked_of tie v w (part_at sys w).period (budget_at budgets w) t) c u next on h
 
   -- all numbers below t are too few
   abbrev pub TooFewBelow : ℕ → Type 0
@@ -57,13 +50,6 @@ module _ (tie : ℕ → ℕ → ℕ) (sys : SystemView) (budgets : List ℕ) (c 
     asked-own tie v (part_at sys v).period (budget_at budgets v) s,
     get-le-sum_below (part_asks s) v (length sys.parts) l,
   )
-
-  pub found : (t : ℕ) → t ≤ (part_at sys v).period → asked tie sys budgets c v t ≤ t → TooFewBelow t
-      → IsLeastBy tie sys budgets c v t
-  found t h enough few = record { isolated = record { in_period = h; enough = enough }; least = few }
-
-  pub not_found : (t : ℕ) → (part_at sys v).period < t → TooFewBelow t → AsksTooMuch tie sys budgets c v
-  not_found t h few s k = few s (omega arith)
 
 -- what is enough where ties are left open is enough in the order of the file
 pub in_file_order : (sys : SystemView) (budgets : List ℕ) → IsPlan sys budgets → (c v t : ℕ)

@@ -10,4 +10,7 @@ pub mod InTrace
 pub mod Exposed
 pub mod OneIsolation
 pub mod Listed
+pub mod Sums
+pub mod Fits
+pub mod Fewer
 mod Examples

@@ -1,6 +1,6 @@
 -- The VCPUs of each core, one behind the other in file order, and sums over those of one.
-use Rattle.std.proofs.Common.{◌≡◌, ℕ, zero, suc, ◌<◌, ◌≤◌, true, false, cond, List, length, set, get_or, replicate, refl, sym, ◌∙◌, ap, arith, subst, inl, inr, eq-eqb}
-use Rattle.std.proofs.lemmas.Bool.{cases_eq, cond-false, both_ways}
+use Rattle.std.proofs.Common.{◌≡◌, ℕ, zero, suc, ◌+◌, ◌<◌, ◌≤◌, true, false, cond, List, length, set, get_or, replicate, refl, sym, ◌∙◌, ap, arith, subst, inl, inr, eq-eqb}
+use Rattle.std.proofs.lemmas.Bool.{cases_eq, cond-true, cond-false, both_ways}
 use Rattle.std.proofs.lemmas.List.{get_or-set_same, get_or-set_other, get_or-replicate, length-replicate, length-set}
 use Rattle.slot_model.specs.Slots.{sum_below}
 use Rattle.slot_model.proofs.Sums.{sum_below-suc}
@@ -52,6 +52,17 @@ module _ (sys : SystemView) where
   sum_next g c from next h =
       sum_past (λ u. cond (is_child sys (Core c) u) (g u) 0) from next h.behind
       (λ u a b. cond-false {A = ℕ} (is_child sys (Core c) u) (g u) 0 (h.none u a b))
+
+  -- and with one of the core ahead of the next
+  pub sum_with : (g : ℕ → ℕ) (c u next : ℕ) → is_child sys (Core c) u ≡ true → IsNextOn sys c (suc u) next
+      → sum_below (λ w. cond (is_child sys (Core c) w) (g w) 0) next
+      ≡ sum_below (λ w. cond (is_child sys (Core c) w) (g w) 0) u + g u
+  sum_with g c u next on h = omega (
+    arith,
+    sum_next g c (suc u) next h,
+    sum_below-suc (λ w. cond (is_child sys (Core c) w) (g w) 0) u,
+    cond-true {A = ℕ} (is_child sys (Core c) u) (g u) 0 on,
+  )
 
   -- none stands behind the last part
   pub none_behind : (n : ℕ) → n ≡ length sys.parts → length sys.cores ≤ 64

@@ -1,8 +1,6 @@
 -- Of a VCPU one thing is answered, and of a system one list.
-use Rattle.std.proofs.Common.{◌≡◌, ℕ, List, [], ◌∷◌, map, refl, sym, ◌∙◌, ap, arith, subst, inl, inr}
-use Rattle.std.specs.Prelude.{All}
+use Rattle.std.proofs.Common.{◌≡◌, ℕ, List, refl, ap, arith, subst, inl, inr}
 use Rattle.std.proofs.lemmas.Bool.{cases_order}
-use Rattle.std.proofs.lemmas.List.Elements.{All-head, All-tail}
 use Rattle.tree_model.specs.View.{SystemView}
 use Rattle.tree_model.specs.Plans.{IsPlan}
 use Rattle.rtds_model.specs.Demand.{later}
@@ -11,8 +9,9 @@ use Rattle.isolation.specs.declared.isolation.Isolation.TheVariants.{Isolated, B
 use Rattle.isolation.specs.declared.vcpus.PartIsolation.{PartIsolation}
 use Rattle.isolation.specs.Demand.{no_tie, IsIsolatedBy, IsLeastBy, AsksTooMuch}
 use Rattle.isolation.specs.Answer.{IsIsolation}
-use Rattle.isolation.specs.Answers.{own_core, IsIsolationOf, AreIsolations}
+use Rattle.isolation.specs.Answers.{own_core, vcpus_of, IsIsolationOf, AreIsolations}
 use Rattle.isolation.proofs.Least.{in_file_order}
+use Rattle.isolation.proofs.Listed.{one_each}
 
 -- there is one least number of slots, and none where each asks too much
 one_least : (tie : ℕ → ℕ → ℕ) (sys : SystemView) (budgets : List ℕ) (c v s t : ℕ) → IsLeastBy tie sys budgets c v s
@@ -65,26 +64,7 @@ one_row sys budgets plan a b part p q =
     (one_isolation sys budgets plan (own_core sys b.part) b.part a.isolation b.isolation
     (subst (λ (v : ℕ). IsIsolation sys budgets (own_core sys v) v a.isolation) part p) q)
 
-abbrev parts_of : List PartIsolation → List ℕ
-parts_of rows = map (λ (row : PartIsolation). row.part) rows
-
-heads_of : (p q : ℕ) (r s : List ℕ) → p ∷ r ≡ q ∷ s → (p ≡ q) × (r ≡ s)
-heads_of p q r s e = (cc, cc)
-
-one_list : (sys : SystemView) (budgets : List ℕ) → IsPlan sys budgets → (a b : List PartIsolation)
-    → parts_of a ≡ parts_of b → All (IsIsolationOf sys budgets) a → All (IsIsolationOf sys budgets) b → a ≡ b
-one_list sys budgets plan [] [] e p q = refl
-one_list sys budgets plan [] (y ∷ b) e p q = absurd (cc)
-one_list sys budgets plan (x ∷ a) [] e p q = absurd (cc)
-one_list sys budgets plan (x ∷ a) (y ∷ b) e p q =
-    let same : (x.part ≡ y.part) × (parts_of a ≡ parts_of b) = heads_of x.part y.part (parts_of a) (parts_of b) e in
-    let first : x ≡ y = one_row sys budgets plan x y same.0 (All-head (IsIsolationOf sys budgets) x a p)
-    (All-head (IsIsolationOf sys budgets) y b q) in
-    let rest : a ≡ b = one_list sys budgets plan a b same.1 (All-tail (IsIsolationOf sys budgets) x a p)
-    (All-tail (IsIsolationOf sys budgets) y b q) in
-    rw (first, rest) refl
-
 pub one_list_of_isolations : (sys : SystemView) (budgets : List ℕ) → IsPlan sys budgets → (a b : List PartIsolation)
     → AreIsolations sys budgets a → AreIsolations sys budgets b → a ≡ b
-one_list_of_isolations sys budgets plan a b p q =
-    one_list sys budgets plan a b (p.places_are ∙ sym q.places_are) p.each q.each
+one_list_of_isolations sys budgets plan =
+    one_each (λ (row : PartIsolation). row.part) (IsIsolationOf sys budgets) (vcpus_of sys) (one_row sys budgets plan)

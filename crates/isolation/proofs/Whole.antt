@@ -21,7 +21,7 @@ use Rattle.isolation.specs.inner.Ties.{tie_of}
 use Rattle.isolation.specs.inner.Whole.{whole_asked_of, whole_asked}
 use Rattle.isolation.proofs.Asked.{asked-rises, of_itself, of_another}
 use Rattle.isolation.proofs.Least.{part_asks, TooFewBelow}
-use Rattle.isolation.proofs.Neighbouring.{sum_next}
+use Rattle.isolation.proofs.Neighbouring.{sum_next, sum_with}
 
 -- where each term takes d more or comes to what it is in another sum, so does the sum
 sums_or : (f g h : ℕ → ℕ) (d n : ℕ) → ((x : ℕ) → x < n → f x ≤ h x)
@@ -141,13 +141,8 @@ module _ (tie : ℕ → ℕ → ℕ) (sys : SystemView) (budgets : List ℕ) (c 
   -- and with one of the core ahead of the next
   pub whole_with : (t u next : ℕ) → is_child sys (Core c) u ≡ true → IsNextOn sys c (suc u) next
       → whole_by t next ≡ whole_by t u + whole_asked_of tie v u (part_at sys u).period (budget_at budgets u) t
-  whole_with t u next on h = omega (
-    arith,
-    whole_next t (suc u) next h,
-    sum_below-suc (part_takes t) u,
-    cond-true {A = ℕ} (is_child sys (Core c) u)
-        (whole_asked_of tie v u (part_at sys u).period (budget_at budgets u) t) 0 on,
-  )
+  whole_with t u next on h =
+      sum_with sys (λ w. whole_asked_of tie v w (part_at sys w).period (budget_at budgets w) t) c u next on h
 
   module _ (plan : IsPlan sys budgets) where
     -- all together take each slot more, or come to all budgets that have begun

@@ -24,14 +24,16 @@ abbrev pub IsIsolationOf : SystemView → List ℕ → PartIsolation → Type 0
 IsIsolationOf sys budgets row =
     IsIsolation sys budgets (own_core sys row.part) row.part row.isolation
 
--- one answer each of these parts, in this order
-pub record AnswerParts (sys : SystemView) (budgets places : List ℕ) (rows : List PartIsolation)
-    : Type 0 where
-  pub places_are : map (λ (row : PartIsolation). row.part) rows ≡ places
-  pub each : All (IsIsolationOf sys budgets) rows
+-- a row of each of these places, in this order
+pub record OneEach {Row : Type 0} (place : Row → ℕ) (Is : Row → Type 0) (places : List ℕ)
+    (rows : List Row) : Type 0 where
+  pub places_are : map place rows ≡ places
+  pub each : All Is rows
 
+-- an answer of each of these parts
 abbrev pub AreIsolations : SystemView → List ℕ → List PartIsolation → Type 0
-AreIsolations sys budgets rows = AnswerParts sys budgets (vcpus_of sys) rows
+AreIsolations sys budgets =
+    OneEach (λ (row : PartIsolation). row.part) (IsIsolationOf sys budgets) (vcpus_of sys)
 
 -- isolated however ties are broken, and each part is so
 abbrev pub is_isolated : Isolation → Bool

@@ -4,4 +4,6 @@ pub mod Keeping
 pub mod InTrace
 pub mod Answer
 pub mod Answers
+pub mod Short
+pub mod Budgets
 pub mod inner

@@ -276,14 +276,19 @@ what_slack_tells : slack_text (part_at tree 2) (71 ∷ 95 ∷ [])
 unfolding digits
 what_slack_tells = refl
 
--- a line for each part on a core: yes where each is isolated however ties are broken
+-- a line for each part on a core, and behind them one for each core with a part on it: yes where
+-- each part is isolated however ties are broken
 what_isolations_tell :
     (isolation_text tree (record { part = 1; isolation = Isolated 5 } ∷ [])
-    ≡ codes "verdict=yes\nisolated net last=5 of=40\n")
+    (record { core = 0; budgets = 31; shortest = 40 } ∷ [])
+    ≡ codes "verdict=yes\nisolated net last=5 of=40\ncore cpu0 budgets=31 shortest=40\n")
     × (isolation_text tree (record { part = 0; isolation = ByTies 31 } ∷ record { part = 1; isolation = ByBlock } ∷ [])
-    ≡ codes "verdict=no\nexposed mid by=ties last=31 of=50\nexposed net by=block\n")
+    [] ≡ codes "verdict=no\nexposed mid by=ties last=31 of=50\nexposed net by=block\n")
+    × (isolation_text tree []
+    (record { core = 0; budgets = 3; shortest = 4 } ∷ record { core = 0; budgets = 5; shortest = 6 } ∷ [])
+    ≡ codes "verdict=yes\ncore cpu0 budgets=3 shortest=4\ncore cpu0 budgets=5 shortest=6\n")
 unfolding digits
-what_isolations_tell = (refl, refl)
+what_isolations_tell = (refl, refl, refl)
 
 -- behind an audit a line for each part on a core, and none for the parts of a part
 what_a_tally_tells : tally_text tree (30 ∷ 2 ∷ 28 ∷ 40 ∷ []) (Yes 3)

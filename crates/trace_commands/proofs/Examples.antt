@@ -32,6 +32,13 @@ use Rattle.isolation.specs.Demand.{asked}
 use Rattle.isolation.specs.Keeping.{got_in, IsAwakeLast, KeepsBudget, KeepsOpenly, IsBreakable, PeriodsUpTo, IsExposed}
 use Rattle.isolation.specs.InTrace.{KeepsInTrace, IsExposedInTrace}
 use Rattle.isolation.specs.Answer.{IsIsolation}
+use Rattle.isolation.specs.Open.{OpenRun}
+use Rattle.isolation.specs.Short.{AllIsolated}
+use Rattle.isolation.specs.declared.budgets.CoreBudgets.{CoreBudgets}
+use Rattle.isolation.specs.Budgets.{AreCoreBudgets}
+use Rattle.isolated_guests.specs.Guests.{PartKeeps, HostsKeep}
+use Rattle.isolated_guests.specs.Answered.{LineKeeps}
+use Rattle.compose_tree.specs.Keeping.{Keeping}
 use Rattle.isolation.specs.Answers.{own_core, AreIsolations, are_isolated}
 use Rattle.rt_report.specs.declared.fault.FileFault.TheVariants.{Trace, Release}
 use Rattle.rt_report.specs.Audit.{audit_text}
@@ -139,13 +146,17 @@ budgets_or_a_part : (sys : SystemView) (text : List ℕ) → AssignedOrNone sys 
     → ((budgets : List ℕ) × Assigned sys budgets) ⊎ IsTrulyUnassigned sys text
 budgets_or_a_part sys text said = elim said [ inl has ↦ inl (has.budgets, has.assigned) | inr none ↦ inr none ]
 
--- what the lines of `isolate` say
+-- what the lines of `isolate` say: of parts, of slots and of deadlines; of cores; and on yes
 abbrev AreLinesOf : SystemView → List ℕ → List ℕ → Bool → Type 0
 AreLinesOf sys text budgets all =
-    (rows : List PartIsolation) × Admitted sys budgets × Assigned sys budgets × AllRtds sys (length sys.cores)
-    × AreIsolations sys budgets rows
-    × All (λ (row : PartIsolation). LineMeans sys budgets (own_core sys row.part) row.part row.isolation) rows
-    × (are_isolated rows ≡ all) × (text ≡ isolation_text sys rows)
+    (rows : List PartIsolation) × (cores : List CoreBudgets) × Admitted sys budgets × Assigned sys budgets
+    × Keeping sys budgets × AllRtds sys (length sys.cores) × AreIsolations sys budgets rows
+    × All (λ (row : PartIsolation). LineMeans sys budgets (own_core sys row.part) row.part row.isolation
+    × LineKeeps sys budgets (own_core sys row.part) row.part row.isolation) rows
+    × AreCoreBudgets sys budgets cores
+    × All (λ (row : CoreBudgets). (row.budgets ≤ row.shortest → AllIsolated sys budgets row.core)
+    × (AllIsolated sys budgets row.core → row.budgets ≤ row.shortest)) cores
+    × (are_isolated rows ≡ all) × (all ≡ true → HostsKeep sys budgets) × (text ≡ isolation_text sys rows cores)
 
 what_lines_say : (sys : SystemView) (text : List ℕ) (all : Bool) → TellsIsolations sys text all
     → (budgets : List ℕ) × AreLinesOf sys text budgets all
@@ -153,15 +164,32 @@ what_lines_say sys text all told = (
   told.budgets,
   (
     told.rows,
+    told.cores,
     told.admitted,
     told.assigned,
+    told.each_node,
     told.all_rtds,
     told.isolations,
     told.means,
+    told.sums,
+    told.where_short,
     told.all_isolated,
+    told.on_yes,
     told.told,
   ),
 )
+
+-- a yes keeps the deadlines of what halts where it has nothing to do, and so does each line that
+-- says isolated
+a_yes_keeps_deadlines : (sys : SystemView) (text : List ℕ) → IsolateMeans sys Yes text
+    → (budgets : List ℕ) × HostsKeep sys budgets
+a_yes_keeps_deadlines sys text told = (told.budgets, told.on_yes refl)
+
+a_line_keeps_deadlines : (sys : SystemView) (budgets : List ℕ) (c v last : ℕ)
+    → (LineKeeps sys budgets c v (Isolated last)
+    → PartKeeps OpenRun sys budgets c v × PartKeeps CoreRun sys budgets c v)
+    × (LineKeeps sys budgets c v (ByTies last) → PartKeeps CoreRun sys budgets c v)
+a_line_keeps_deadlines sys budgets c v last = (λ h. h, λ h. h)
 
 a_yes_isolates_all : (sys : SystemView) (text : List ℕ) → IsolateMeans sys Yes text → TellsIsolations sys text true
 a_yes_isolates_all sys text told = told

@@ -1,7 +1,8 @@
 -- `isolate FILE`: what it answers, and what its yes and no mean to who lets guests block.
-use Rattle.std.specs.Prelude.{◌≡◌, ◌⊎◌, ℕ, Bool, true, false, if◌then◌else◌, List, length, All, ⊤}
+use Rattle.std.specs.Prelude.{◌≡◌, ◌⊎◌, ℕ, ◌≤◌, Bool, true, false, if◌then◌else◌, List, length, All, ⊤}
 use Rattle.tree_model.specs.View.{SystemView}
 use Rattle.tree_model.specs.Admission.{Admitted, Assigned}
+use Rattle.compose_tree.specs.Keeping.{Keeping}
 use Rattle.rtds_sim.specs.Fault.{AllRtds, IsFirstOther}
 use Rattle.rtds_model.specs.Giving.{ServersFit}
 use Rattle.isolation.specs.declared.isolation.Isolation.{Isolation}
@@ -10,6 +11,11 @@ use Rattle.isolation.specs.declared.vcpus.PartIsolation.{PartIsolation}
 use Rattle.isolation.specs.Keeping.{KeepsBudget, KeepsOpenly, IsExposed}
 use Rattle.isolation.specs.InTrace.{KeepsInTrace, IsExposedInTrace}
 use Rattle.isolation.specs.Answers.{own_core, AreIsolations, are_isolated}
+use Rattle.isolation.specs.Short.{AllIsolated}
+use Rattle.isolation.specs.declared.budgets.CoreBudgets.{CoreBudgets}
+use Rattle.isolation.specs.Budgets.{AreCoreBudgets}
+use Rattle.isolated_guests.specs.Guests.{HostsKeep}
+use Rattle.isolated_guests.specs.Answered.{LineKeeps}
 use Rattle.rt_report.specs.Fault.{not_rtds_text}
 use Rattle.rt_report.specs.Isolation.{isolation_text}
 use Rattle.command_frame.specs.declared.status.Status.{Status}
@@ -20,16 +26,18 @@ use Rattle.command_frame.specs.CommandSpec.{CommandSpec}
 use Rattle.command_frame.specs.OverFiles.{over_system_ending}
 use Rattle.trace_commands.specs.Rtds.{IsVerdictOfRun}
 
--- over cores that are all full and under earliest deadline first, what each part on a core keeps;
--- else the first core that is not refuses
-pub record IsolatesAll (sys : SystemView) (budgets : List ℕ) (rows : List PartIsolation) : Type 0
-  where
-    pub all : AllRtds sys (length sys.cores)
-    pub isolations : AreIsolations sys budgets rows
+-- over cores that are all full and under earliest deadline first, what each part on a core keeps,
+-- and the budgets and the shortest period of each such core; else the first core that is not
+-- refuses
+pub record IsolatesAll (sys : SystemView) (budgets : List ℕ) (rows : List PartIsolation)
+    (cores : List CoreBudgets) : Type 0 where
+  pub all : AllRtds sys (length sys.cores)
+  pub isolations : AreIsolations sys budgets rows
+  pub sums : AreCoreBudgets sys budgets cores
 
-abbrev pub isolating : SystemView → List ℕ → Attempt (List PartIsolation) ℕ
+abbrev pub isolating : SystemView → List ℕ → Attempt (List PartIsolation × List CoreBudgets) ℕ
 isolating sys budgets = record {
-  Gives = IsolatesAll sys budgets;
+  Gives = λ lists. IsolatesAll sys budgets lists.0 lists.1;
   Refuses = IsFirstOther sys;
   status_of = λ c. BadFile;
   text_of = λ c. not_rtds_text sys c;
@@ -39,10 +47,10 @@ isolating sys budgets = record {
 abbrev pub isolation_status : List PartIsolation → Status
 isolation_status rows = if are_isolated rows then Yes else No
 
-pub record IsToldIsolation (sys : SystemView) (rows : List PartIsolation) (status : Status)
-    (text : List ℕ) : Type 0 where
-  pub status_is : status ≡ isolation_status rows
-  pub told : text ≡ isolation_text sys rows
+pub record IsToldIsolation (sys : SystemView) (lists : List PartIsolation × List CoreBudgets)
+    (status : Status) (text : List ℕ) : Type 0 where
+  pub status_is : status ≡ isolation_status lists.0
+  pub told : text ≡ isolation_text sys lists.0 lists.1
 
 -- the answer to a system, whose budgets are those that admit it
 abbrev pub Isolates : SystemView → Status → List ℕ → Type 0
@@ -66,19 +74,36 @@ LineMeans sys budgets c v (ByTies last) =
 LineMeans sys budgets c v ByBlock =
     ServersFit sys budgets c × IsExposed sys budgets c v × IsExposedInTrace sys budgets c v
 
--- a line for each part on a core, in file order, and what each line means; these are also the
--- budgets that `rtds` takes
+-- What the line of a core means: the sum of its budgets is no more than its shortest period exactly
+-- where each part on it is isolated, however ties are broken.
+abbrev pub IsShortWhereIsolated : SystemView → List ℕ → CoreBudgets → Type 0
+IsShortWhereIsolated sys budgets row =
+    (row.budgets ≤ row.shortest → AllIsolated sys budgets row.core)
+    × (AllIsolated sys budgets row.core → row.budgets ≤ row.shortest)
+
+-- A line for each part on a core, in file order, and behind them one for each such core; and what
+-- each line means. These are also the budgets that `rtds` takes, and under them each node keeps its
+-- deadlines by itself over any supply of its kind (`each_node`). What a line means for a guest that
+-- halts stands beside what it means for its slots (`means`): where it is isolated, no job of it is
+-- lost in any run in which it halts only where none of its jobs is pending. Of a guest that halts
+-- while one is, nothing is said but of slots. On yes so it is of each part on a core (`on_yes`).
 pub record TellsIsolations (sys : SystemView) (text : List ℕ) (all : Bool) : Type 0 where
   pub budgets : List ℕ
   pub admitted : Admitted sys budgets
   pub assigned : Assigned sys budgets
+  pub each_node : Keeping sys budgets
   pub all_rtds : AllRtds sys (length sys.cores)
   pub rows : List PartIsolation
   pub isolations : AreIsolations sys budgets rows
   pub means : All (λ (row : PartIsolation).
-      LineMeans sys budgets (own_core sys row.part) row.part row.isolation) rows
+      LineMeans sys budgets (own_core sys row.part) row.part row.isolation
+      × LineKeeps sys budgets (own_core sys row.part) row.part row.isolation) rows
+  pub cores : List CoreBudgets
+  pub sums : AreCoreBudgets sys budgets cores
+  pub where_short : All (IsShortWhereIsolated sys budgets) cores
   pub all_isolated : are_isolated rows ≡ all
-  pub told : text ≡ isolation_text sys rows
+  pub on_yes : all ≡ true → HostsKeep sys budgets
+  pub told : text ≡ isolation_text sys rows cores
 
 -- what an answer to a system means: yes, that each part on a core is isolated; no, that it is not
 -- admitted, or that some part is not; of a wide one nothing is claimed

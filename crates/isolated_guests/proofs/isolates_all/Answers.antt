@@ -1,5 +1,5 @@
-use Rattle.isolated_guests.proofs.Short.{isolated_where_short}
-use Rattle.isolated_guests.proofs.Fewer.{fewer_isolate}
+use Rattle.isolation.proofs.Fits.{isolated_where_short}
+use Rattle.isolation.proofs.Fewer.{fewer_isolate}
 use Rattle.isolated_guests.proofs.isolates_all.Goals as goal
 
 pub returns : goal.returns

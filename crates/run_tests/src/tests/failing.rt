@@ -220,7 +220,8 @@ fn of_tally(rt: HostRuntime) -> Result<(), Fail> {
 #[test]
 fn of_isolate(rt: HostRuntime) -> Result<(), Fail> {
     let words = ["isolate", "first"];
-    let answer = "verdict=yes\nisolated A last=7 of=10\nisolated B last=7 of=10\n";
+    let answer = "verdict=yes\nisolated A last=7 of=10\nisolated B last=7 of=10\n\
+        core cpu0 budgets=7 shortest=10\n";
     all_fail(&rt, rt.alloc(), &words, &[SHARED], answer)
 }
 

@@ -20,13 +20,19 @@ use Rattle.isolation.specs.Answers.{own_core, are_isolated}
 use Rattle.isolation.proofs.Exposed.{means, means_in_trace}
 use Rattle.isolation.proofs.Listed.{each_vcpu}
 use Rattle.isolation.proofs.OneIsolation.{one_list_of_isolations}
+use Rattle.isolation.specs.declared.budgets.CoreBudgets.{CoreBudgets}
+use Rattle.isolation.specs.Budgets.{IsCoreBudgets}
+use Rattle.isolation.proofs.Sums.{fits_shortest, one_list_of_budgets}
+use Rattle.isolation.proofs.Fits.{isolated_where_short}
+use Rattle.isolated_guests.proofs.Answered.{lines_keep, yes_keeps}
+use Rattle.compose_tree.proofs.Sound.{admitted_keeping}
 use Rattle.rt_report.specs.Isolation.{isolation_text}
 use Rattle.command_frame.specs.declared.status.Status.{Status}
 use Rattle.command_frame.specs.declared.status.Status.TheVariants.{Yes, No, Wide, BadFile}
 use Rattle.command_frame.specs.Answer.{IsOne}
 use Rattle.command_frame.specs.Attempt.{OnAttempt}
 use Rattle.command_frame.specs.Budgets.{composing}
-use Rattle.trace_commands.specs.Isolate.{the_isolate, isolating, IsolatesAll, IsToldIsolation, Isolates, LineMeans, TellsIsolations, IsolateMeans}
+use Rattle.trace_commands.specs.Isolate.{the_isolate, isolating, IsolatesAll, IsToldIsolation, Isolates, LineMeans, IsShortWhereIsolated, TellsIsolations, IsolateMeans}
 use Rattle.trace_commands.specs.Rtds.{IsVerdictOfRun}
 use Rattle.command_frame.specs.Steps.{IsJudged}
 use Rattle.command_frame.proofs.Attempt.{IsDecided, one_attempt, statuses_attempt}
@@ -35,12 +41,18 @@ use Rattle.command_frame.proofs.CommandLaws.{CommandLaws}
 use Rattle.command_frame.proofs.OneFile.{ending_laws}
 use Rattle.trace_commands.proofs.Laws.Rtds.{one_other, servers_fit}
 
--- there is one list of what parts keep, or one first core that is not full under earliest deadline
--- first
+same_lists : (a b : List PartIsolation) (c d : List CoreBudgets) → a ≡ b → c ≡ d
+    → Path (List PartIsolation × List CoreBudgets) (a, c) (b, d)
+same_lists a b c d rows cores = rw (rows, cores) refl
+
+-- there is one list of what parts keep and one of cores, or one first core that is not full under
+-- earliest deadline first
 isolating_decided : (sys : SystemView) (budgets : List ℕ) → IsPlan sys budgets → IsDecided (isolating sys budgets)
 isolating_decided sys budgets plan = record {
-  one_value = λ x y p q. one_list_of_isolations sys budgets plan x y p.isolations q.isolations;
-  never_both = λ rows c all other. both_ways (is_rtds sys c) other.other (all.all c other.is_core);
+  one_value = λ x y p q. same_lists x.0 y.0 x.1 y.1
+      (one_list_of_isolations sys budgets plan x.0 y.0 p.isolations q.isolations)
+      (one_list_of_budgets sys budgets x.1 y.1 p.sums q.sums);
+  never_both = λ lists c all other. both_ways (is_rtds sys c) other.other (all.all c other.is_core);
   one_refusal = one_other sys;
 }
 
@@ -48,15 +60,15 @@ abbrev Says : SystemView → List ℕ → Status → List ℕ → Type 0
 Says sys budgets = OnAttempt (isolating sys budgets) (IsToldIsolation sys)
 
 -- one answer
-one_told : (sys : SystemView) (rows : List PartIsolation) → IsOne (IsToldIsolation sys rows)
-one_told sys rows = λ s t x y p q. (p.status_is ∙ sym q.status_is, p.told ∙ sym q.told)
+one_told : (sys : SystemView) (lists : List PartIsolation × List CoreBudgets) → IsOne (IsToldIsolation sys lists)
+one_told sys lists = λ s t x y p q. (p.status_is ∙ sym q.status_is, p.told ∙ sym q.told)
 
 one_isolated : (sys : SystemView) → IsSystem sys → IsOne (Isolates sys)
 one_isolated sys is =
     one_attempt (composing sys) (Says sys) (composing_decided sys is)
     (λ budgets admitted. one_attempt (isolating sys budgets) (IsToldIsolation sys)
     (isolating_decided sys budgets (assigned_is_plan sys is budgets admitted.assigned))
-    (λ rows gives. one_told sys rows))
+    (λ lists gives. one_told sys lists))
 
 -- its statuses
 either_status : (P : Status → Type 0) → P Yes → P No → (b : Bool) → P (cond b Yes No)
@@ -68,7 +80,7 @@ isolates_status : (P : Status → Type 0) → P Yes → P No → P Wide → (sys
 isolates_status P at_yes at_no at_wide sys status text at_other h =
     statuses_attempt P (composing sys) (Says sys) status text (refused_status P at_no at_wide sys)
     (λ budgets said. statuses_attempt P (isolating sys budgets) (IsToldIsolation sys) status text at_other
-    (λ rows told. subst P (sym told.status_is) (either_status P at_yes at_no (are_isolated rows))) said) h
+    (λ lists told. subst P (sym told.status_is) (either_status P at_yes at_no (are_isolated lists.0))) said) h
 
 -- what a line means
 line_means : (sys : SystemView) (budgets : List ℕ) (c v : ℕ) → ServersFit sys budgets c → (answer : Isolation)
@@ -90,38 +102,56 @@ part_means sys is budgets admitted all v vcpu answer h =
     line_means sys budgets c v fit answer (means sys is budgets plan c v l on.child answer h)
     (means_in_trace sys is budgets plan c v l on.child fit answer h)
 
+-- what the line of a core means
+core_means : (sys : SystemView) (budgets : List ℕ) → IsPlan sys budgets → (row : CoreBudgets)
+    → IsCoreBudgets sys budgets row → IsShortWhereIsolated sys budgets row
+core_means sys budgets plan row is =
+    let short = isolated_where_short sys budgets row.core plan in
+    let fits = fits_shortest sys budgets row is in
+    (λ few. short.0 (fits.0 few), λ all. fits.1 (short.1 all))
+
 -- what an answer means
 tells : (sys : SystemView) → IsSystem sys → (budgets : List ℕ) → Admitted sys budgets → (rows : List PartIsolation)
-    → IsolatesAll sys budgets rows → (text : List ℕ) → text ≡ isolation_text sys rows → (b : Bool)
-    → are_isolated rows ≡ b → TellsIsolations sys text b
-tells sys is budgets admitted rows h text told b e = record {
-  budgets = budgets;
-  admitted = admitted;
-  assigned = admitted.assigned;
-  all_rtds = h.all;
-  rows = rows;
-  isolations = h.isolations;
-  means = λ k d l. part_means sys is budgets admitted h.all _ (each_vcpu sys budgets rows h.isolations k d l) _
-      (h.isolations.each k d l);
-  all_isolated = e;
-  told = told;
-}
+    (cores : List CoreBudgets) → IsolatesAll sys budgets rows cores → (text : List ℕ)
+    → text ≡ isolation_text sys rows cores → (b : Bool) → are_isolated rows ≡ b → TellsIsolations sys text b
+tells sys is budgets admitted rows cores h text told b e =
+    let plan : IsPlan sys budgets = assigned_is_plan sys is budgets admitted.assigned in
+    record {
+      budgets = budgets;
+      admitted = admitted;
+      assigned = admitted.assigned;
+      each_node = admitted_keeping sys is budgets admitted;
+      all_rtds = h.all;
+      rows = rows;
+      isolations = h.isolations;
+      means = λ k d l. (
+        part_means sys is budgets admitted h.all _ (each_vcpu sys budgets rows h.isolations k d l) _
+            (h.isolations.each k d l),
+        lines_keep sys budgets _ _ _ is admitted (h.isolations.each k d l),
+      );
+      cores = cores;
+      sums = h.sums;
+      where_short = λ k d l. core_means sys budgets plan _ (h.sums.each k d l);
+      all_isolated = e;
+      on_yes = λ yes. yes_keeps sys budgets rows is admitted h.isolations (e ∙ yes);
+      told = told;
+    }
 
 told_means : (sys : SystemView) → IsSystem sys → (budgets : List ℕ) → Admitted sys budgets → (rows : List PartIsolation)
-    → IsolatesAll sys budgets rows → (status : Status) (text : List ℕ) → IsToldIsolation sys rows status text
-    → IsolateMeans sys status text
-told_means sys is budgets admitted rows h status text told =
+    (cores : List CoreBudgets) → IsolatesAll sys budgets rows cores → (status : Status) (text : List ℕ)
+    → IsToldIsolation sys (rows, cores) status text → IsolateMeans sys status text
+told_means sys is budgets admitted rows cores h status text told =
     subst (λ (s : Status). IsolateMeans sys s text) (sym told.status_is) (go (are_isolated rows) refl)
   where
     go : (b : Bool) → are_isolated rows ≡ b → IsolateMeans sys (cond b Yes No) text
-    go true e = tells sys is budgets admitted rows h text told.told true e
-    go false e = inr (tells sys is budgets admitted rows h text told.told false e)
+    go true e = tells sys is budgets admitted rows cores h text told.told true e
+    go false e = inr (tells sys is budgets admitted rows cores h text told.told false e)
 
 isolates_means : (sys : SystemView) → IsSystem sys → (status : Status) (text : List ℕ) → Isolates sys status text
     → IsolateMeans sys status text
 isolates_means sys is status text h = elim h [
   | inl a ↦ elim a.said [
-    | inl given ↦ told_means sys is a.value a.gives given.value given.gives status text given.said
+    | inl given ↦ told_means sys is a.value a.gives given.value.0 given.value.1 given.gives status text given.said
     | inr other ↦ subst (λ (s : Status). IsolateMeans sys s text) (sym other.status_is) tt
   ]
   | inr a ↦

@@ -6,7 +6,9 @@ use Rattle.tree_model.specs.System.{part_at}
 use Rattle.trace_file.specs.Rules.{is_core}
 use Rattle.isolation.specs.declared.vcpus.PartIsolation.{PartIsolation}
 use Rattle.isolation.specs.Answers.{AreIsolations}
-use Rattle.isolation.proofs.Listed.{each_vcpu}
+use Rattle.isolation.specs.declared.budgets.CoreBudgets.{CoreBudgets}
+use Rattle.isolation.specs.Budgets.{has_part, IsCoreBudgets, AreCoreBudgets}
+use Rattle.isolation.proofs.Listed.{each_place, each_vcpu}
 use Rattle.trace_commands.proofs.isolate.IsolateJudgeOne.judge.Goals as goal
 
 -- each line is one of a part of the system
@@ -16,8 +18,21 @@ each_part sys budgets rows h k d l =
     ltb-true _ (length sys.parts)
     (and_parts (nat_lt _ (length sys.parts)) (is_core (part_at sys _).parent) (each_vcpu sys budgets rows h k d l)).0
 
-pub isolation_text-requires : goal.isolation_text-requires
-isolation_text-requires c =
+-- and one of a core
+each_core : (sys : SystemView) (budgets : List ℕ) (rows : List CoreBudgets) → AreCoreBudgets sys budgets rows
+    → All (λ (row : CoreBudgets). row.core < length sys.cores) rows
+each_core sys budgets rows h k d l =
+    (each_place (λ (row : CoreBudgets). row.core) (IsCoreBudgets sys budgets) (has_part sys) (length sys.cores) rows h k
+    d l).0
+
+pub isolation_text-requires-parts : goal.isolation_text-requires-parts
+isolation_text-requires-parts c =
     subst (λ (rows : List PartIsolation). All (λ (row : PartIsolation). row.part < length c.args.sys.now.parts) rows)
-    (sym c.deref.ensures.value)
-    (each_part c.args.sys.now c.in_ok-plan.plan c.in_ok-rows.rows.items c.in_ok-rows.ensures.isolated.isolations)
+    (sym c.deref-rows.ensures.value)
+    (each_part c.args.sys.now c.in_ok-plan.plan c.in_ok-rows.rows.items c.in_ok-rows.ensures)
+
+pub isolation_text-requires-cores : goal.isolation_text-requires-cores
+isolation_text-requires-cores c =
+    subst (λ (rows : List CoreBudgets). All (λ (row : CoreBudgets). row.core < length c.args.sys.now.cores) rows)
+    (sym c.deref-cores.ensures.value)
+    (each_core c.args.sys.now c.in_ok-plan.plan c.in_ok-cores.cores.items c.in_ok-cores.ensures)

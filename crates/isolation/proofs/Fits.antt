@@ -15,7 +15,7 @@ use Rattle.rtds_model.specs.Demand.{deferrable_demand}
 use Rattle.rtds_model.proofs.Demands.{deferrable_fits, own}
 use Rattle.isolation.specs.Demand.{asked_of, no_tie, IsIsolatedBy}
 use Rattle.isolation.proofs.Asked.{of_itself, of_another, asked-own}
-use Rattle.isolated_guests.specs.Short.{budgets_on, FitsShortest, AllIsolated, IsolatedWhereShort}
+use Rattle.isolation.specs.Short.{budgets_on, FitsShortest, AllIsolated, IsolatedWhereShort}
 
 -- a server takes its budget of so many slots, or all of them
 deferrable-least : (P B t : ℕ) → 1 ≤ P → min B t ≤ deferrable_demand P B t

@@ -10,7 +10,7 @@ use Rattle.tree_model.specs.Tree.{is_child, budget_at}
 use Rattle.rtds_model.specs.Demand.{deferrable_demand, later}
 use Rattle.isolation.specs.Demand.{asked_of, no_tie, IsIsolatedBy}
 use Rattle.isolation.proofs.Asked.{of_itself, of_another}
-use Rattle.isolated_guests.specs.Short.{AreNoGreater, FewerIsolate}
+use Rattle.isolation.specs.Short.{AreNoGreater, FewerIsolate}
 
 deferrable-fewer : (P B M t : ℕ) → B ≤ M → deferrable_demand P B t ≤ deferrable_demand P M t
 deferrable-fewer P B M t l = omega (arith, l, mul-le-mul_left (t / P) l)
