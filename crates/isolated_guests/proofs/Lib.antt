@@ -5,5 +5,5 @@ mod Fewer
 pub mod Short
 pub mod Kept
 pub mod Answered
-mod Traces
+pub mod Traces
 mod Examples
