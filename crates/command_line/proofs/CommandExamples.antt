@@ -12,6 +12,7 @@ use Rattle.trace_commands.specs.Audit.{AuditMeans}
 use Rattle.trace_commands.specs.Simulate.{SimulateMeans}
 use Rattle.trace_commands.specs.Isolate.{IsolateMeans}
 use Rattle.trace_commands.specs.Tally.{TallyMeans}
+use Rattle.trace_commands.specs.Steal.{StealMeans}
 use Rattle.guest_commands.specs.Responses.{RespondMeans}
 use Rattle.guest_commands.specs.Interface.{InterfaceMeans}
 use Rattle.guest_commands.specs.Choose.{ChooseMeans}
@@ -19,7 +20,7 @@ use Rattle.guest_commands.specs.Slack.{SlackMeans}
 use Rattle.host_commands.specs.Bulk.{HostKeepsDeadlines}
 use Rattle.host_commands.specs.Session.{SessionMeans}
 use Rattle.host_commands.specs.Place.{PlaceMeans}
-use Rattle.command_line.specs.Commands.{Command, admit, certify, check, rtds, audit, simulate, bulk, responses, interface, choose, session, place, isolate, slack, tally, version, spec_of, file_names}
+use Rattle.command_line.specs.Commands.{Command, admit, certify, check, rtds, audit, simulate, bulk, responses, interface, choose, session, place, isolate, slack, tally, version, steal, spec_of, file_names}
 
 -- the system file is read first, whichever stands behind it
 files_in_the_order_of_the_words : (file other : List ℕ) (pattern : Pattern) (n : ℕ) →
@@ -29,8 +30,9 @@ files_in_the_order_of_the_words : (file other : List ℕ) (pattern : Pattern) (n
     × (file_names (simulate file other pattern n) ≡ file ∷ other ∷ [])
     × (file_names (session file other) ≡ file ∷ other ∷ []) × (file_names (place file other) ≡ file ∷ other ∷ [])
     × (file_names (tally file other) ≡ file ∷ other ∷ [])
+    × (file_names (steal file other) ≡ file ∷ other ∷ [])
 files_in_the_order_of_the_words file other pattern n =
-    (refl, refl, refl, refl, refl, refl, refl, refl, refl)
+    (refl, refl, refl, refl, refl, refl, refl, refl, refl, refl)
 
 -- a leaf is no file, and neither a number of guests nor the version asks for one
 other_words_are_no_files : (file part : List ℕ) (n m : ℕ) →
@@ -64,8 +66,9 @@ commands_over_two_files : (file other text : List ℕ) (pattern : Pattern) (n : 
     × (Means (session file other) contents status text → SessionMeans contents status text)
     × (Means (place file other) contents status text → PlaceMeans contents status text)
     × (Means (tally file other) contents status text → TallyMeans contents status text)
+    × (Means (steal file other) contents status text → StealMeans contents status text)
 commands_over_two_files file other text pattern n contents status =
-    (λ h. h, λ h. h, λ h. h, λ h. h, λ h. h, λ h. h, λ h. h)
+    (λ h. h, λ h. h, λ h. h, λ h. h, λ h. h, λ h. h, λ h. h, λ h. h)
 
 commands_without_files : (text : List ℕ) (n : ℕ) (contents : Contents) (status : Status) →
     (Means (bulk n) contents status text → HostKeepsDeadlines n)

@@ -2,7 +2,7 @@
 pub mod Version
 use Rattle.std.specs.Prelude.{⊤, Option, Some, None}
 use Rattle.command_line.specs.declared.commands.Command.{Command as Parsed}
-use Rattle.command_line.specs.declared.commands.Command.TheVariants.{Admit as ToAdmit, Certify as ToCertify, Check as ToCheck, Rtds as ToRtds, Audit as ToAudit, Simulate as ToSimulate, Bulk as ToBulk, Responses as ToResponses, Interface as ToInterface, Choose as ToChoose, Session as ToSession, Place as ToPlace, Isolate as ToIsolate, Slack as ToSlack, Tally as ToTally, Version as ToVersion}
+use Rattle.command_line.specs.declared.commands.Command.TheVariants.{Admit as ToAdmit, Certify as ToCertify, Check as ToCheck, Rtds as ToRtds, Audit as ToAudit, Simulate as ToSimulate, Bulk as ToBulk, Responses as ToResponses, Interface as ToInterface, Choose as ToChoose, Session as ToSession, Place as ToPlace, Isolate as ToIsolate, Slack as ToSlack, Tally as ToTally, Version as ToVersion, Steal as ToSteal}
 use Rattle.command_line.specs.Commands.{Command, spec_of, command_told}
 use Rattle.command_frame.proofs.CommandLaws.{CommandLaws}
 use Rattle.admit_commands.proofs.Laws.Admit.{admit_laws}
@@ -21,6 +21,7 @@ use Rattle.trace_commands.proofs.Laws.Isolate.{isolate_laws}
 use Rattle.guest_commands.proofs.Laws.Slack.{slack_laws}
 use Rattle.trace_commands.proofs.Laws.Tally.{tally_laws}
 use Rattle.command_line.proofs.Laws.Version.{version_laws}
+use Rattle.trace_commands.proofs.Laws.Steal.{steal_laws}
 
 pub laws_of : (command : Parsed) → CommandLaws (spec_of (command_told command))
 laws_of (ToAdmit file) = admit_laws file.now
@@ -39,6 +40,7 @@ laws_of (ToIsolate file) = isolate_laws file.now
 laws_of (ToSlack file part) = slack_laws file.now part.now
 laws_of (ToTally file trace) = tally_laws file.now trace.now
 laws_of ToVersion = version_laws
+laws_of (ToSteal file trace) = steal_laws file.now trace.now
 
 -- the laws of the command, where there is one
 abbrev pub AreLawful : Option Command → Type 0

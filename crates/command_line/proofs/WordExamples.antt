@@ -4,7 +4,7 @@ use Rattle.std.specs.Prelude.{codes, option_map, option_and_then}
 use Rattle.command_line.specs.Numbers.{guest_number}
 use Rattle.command_line.specs.PeriodWords.{period_of, range_of}
 use Rattle.command_line.specs.SlotWords.{slot_count, pattern_of}
-use Rattle.command_line.specs.Commands.{admit, certify, check, rtds, audit, simulate, bulk, interface, choose, session, place, isolate, slack, tally, responses, version, command_of, usage_line}
+use Rattle.command_line.specs.Commands.{admit, certify, check, rtds, audit, simulate, bulk, interface, choose, session, place, isolate, slack, tally, responses, version, steal, command_of, usage_line}
 use Rattle.server_sched.specs.declared.supplies.Pattern.TheVariants.{Early, Late, Worst}
 
 -- `admit` and one file, and nothing else
@@ -102,8 +102,9 @@ the_words_of_each_command : (a b c d : List ℕ) →
     × (command_of (codes "slack" ∷ a ∷ b ∷ []) ≡ Some (slack a b))
     × (command_of (codes "tally" ∷ a ∷ b ∷ []) ≡ Some (tally a b))
     × (command_of (codes "version" ∷ []) ≡ Some version)
+    × (command_of (codes "steal" ∷ a ∷ b ∷ []) ≡ Some (steal a b))
 the_words_of_each_command a b c d =
-    (refl, refl, refl, refl, refl, refl, refl, refl, refl, refl, refl, refl, refl, refl, refl, refl)
+    (refl, refl, refl, refl, refl, refl, refl, refl, refl, refl, refl, refl, refl, refl, refl, refl, refl)
 
 -- a command takes no fewer words and no more, whatever they are
 no_other_number_of_words : (a b : List ℕ) (rest : List (List ℕ)) →
@@ -117,5 +118,5 @@ no_other_number_of_words a b rest = (refl, refl, refl, refl, refl, refl, refl, r
 
 the_usage : usage_line
     ≡ codes
-    "usage: rtadmit admit FILE | certify FILE | check FILE CERT | simulate FILE RELEASES PATTERN SLOTS | rtds FILE WORKLOAD SLOTS | audit FILE TRACE | bulk N | interface FILE PART DEADLINE | responses FILE | choose FILE PART LOW HIGH | session FILE SCRIPT | place FILE GUESTS | isolate FILE | slack FILE PART | tally FILE TRACE | version\n"
+    "usage: rtadmit admit FILE | certify FILE | check FILE CERT | simulate FILE RELEASES PATTERN SLOTS | rtds FILE WORKLOAD SLOTS | audit FILE TRACE | bulk N | interface FILE PART DEADLINE | responses FILE | choose FILE PART LOW HIGH | session FILE SCRIPT | place FILE GUESTS | isolate FILE | slack FILE PART | tally FILE TRACE | version | steal FILE TRACE\n"
 the_usage = refl

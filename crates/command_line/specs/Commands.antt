@@ -2,7 +2,7 @@
 use Rattle.std.specs.Prelude.{ℕ, List, [], ◌∷◌, ◌++◌, Option, None, option_map, option_and_then, codes, bytes_eq, if◌then◌else◌}
 use Rattle.server_sched.specs.declared.supplies.Pattern.{Pattern}
 use Rattle.command_line.specs.declared.commands.Command.{Command as Parsed}
-use Rattle.command_line.specs.declared.commands.Command.TheVariants.{Admit as ToAdmit, Certify as ToCertify, Check as ToCheck, Rtds as ToRtds, Audit as ToAudit, Simulate as ToSimulate, Bulk as ToBulk, Responses as ToResponses, Interface as ToInterface, Choose as ToChoose, Session as ToSession, Place as ToPlace, Isolate as ToIsolate, Slack as ToSlack, Tally as ToTally, Version as ToVersion}
+use Rattle.command_line.specs.declared.commands.Command.TheVariants.{Admit as ToAdmit, Certify as ToCertify, Check as ToCheck, Rtds as ToRtds, Audit as ToAudit, Simulate as ToSimulate, Bulk as ToBulk, Responses as ToResponses, Interface as ToInterface, Choose as ToChoose, Session as ToSession, Place as ToPlace, Isolate as ToIsolate, Slack as ToSlack, Tally as ToTally, Version as ToVersion, Steal as ToSteal}
 use Rattle.command_line.specs.PeriodWords.{range_of}
 use Rattle.command_line.specs.Forms.{Form, form, alone, with_one, with_two, with_three, with_four, any_word, file_word, part_word, trace_word, pattern_word, slots_word, guests_word, deadline_word, four_words}
 use Rattle.command_frame.specs.CommandSpec.{CommandSpec}
@@ -22,6 +22,7 @@ use Rattle.trace_commands.specs.Isolate.{the_isolate}
 use Rattle.guest_commands.specs.Slack.{the_slack}
 use Rattle.trace_commands.specs.Tally.{the_tally}
 use Rattle.command_line.specs.Version.{the_version}
+use Rattle.trace_commands.specs.Steal.{the_steal}
 
 -- one form of words each: the names of its files, in the order of the words, that of a leaf, and
 -- its numbers
@@ -42,6 +43,7 @@ pub data Command : Type 0 where
   slack : (file part : List ℕ) → Command
   tally : (file trace : List ℕ) → Command
   version : Command
+  steal : (file trace : List ℕ) → Command
 
 -- what there is to say of each
 abbrev pub spec_of : Command → CommandSpec
@@ -61,6 +63,7 @@ spec_of (isolate file) = the_isolate file
 spec_of (slack file part) = the_slack file part
 spec_of (tally file trace) = the_tally file trace
 spec_of version = the_version
+spec_of (steal file trace) = the_steal file trace
 
 -- the command that was parsed
 abbrev pub command_told : Parsed → Command
@@ -81,6 +84,7 @@ command_told (ToIsolate file) = isolate file.now
 command_told (ToSlack file part) = slack file.now part.now
 command_told (ToTally file trace) = tally file.now trace.now
 command_told ToVersion = version
+command_told (ToSteal file trace) = steal file.now trace.now
 
 -- the names of a command's files, in the order of its words
 abbrev pub file_names : Command → List (List ℕ)
@@ -113,6 +117,7 @@ forms =
     ∷ with_two (codes "slack") file_word part_word slack
     ∷ with_two (codes "tally") file_word trace_word tally
     ∷ alone (codes "version") version
+    ∷ with_two (codes "steal") file_word trace_word steal
     ∷ []
 
 -- the command that the words spell: its own word, and then its files and numbers

@@ -1,7 +1,7 @@
 ghost use Rattle.std.specs.Prelude.{◌≡◌, ◌≢◌, Some, map, option_map, string_bytes, IfOk, IfErr};
 ghost use Rattle.std.specs.Option.{option_copied};
 ghost use Rattle.command_line.specs.Commands.{command_of, command_told, forms, spelled_by, usage_line};
-ghost use Rattle.command_line.specs.inner.Forms.{forms_from_isolate, forms_from_responses, forms_from_rtds};
+ghost use Rattle.command_line.specs.inner.Forms.{forms_from_isolate, forms_from_responses, forms_from_rtds, forms_from_steal};
 ghost use Rattle.command_line.specs.Forms.{four_words, no_word, one_word, three_words, two_words};
 ghost use Rattle.command_line.specs.Numbers.{guest_number};
 ghost use Rattle.command_line.specs.Reading.{NamesNoFile};
@@ -60,6 +60,8 @@ pub enum Command<'a> {
     Tally(&'a str, &'a str),
     /// `version`
     Version,
+    /// `steal FILE TRACE`
+    Steal(&'a str, &'a str),
 }
 
 /// The command that the words spell: its own word, its files, and what else it takes.
@@ -153,6 +155,19 @@ fn spelled_from_isolate<'a>(word: &str, rest: &'a [String]) -> Option<Command<'a
             no_word(rest)?;
             Command::Version
         }
+        _ => return spelled_from_steal(word, rest),
+    })
+}
+
+fn spelled_from_steal<'a>(word: &str, rest: &'a [String]) -> Option<Command<'a>>
+    ensures { option_map command_told result
+        ≡ spelled_by forms_from_steal word.now (map string_bytes rest.now) }
+{
+    Some(match word {
+        "steal" => {
+            let (file, trace) = two_words(rest)?;
+            Command::Steal(file, trace)
+        }
         _ => return None,
     })
 }
@@ -165,7 +180,7 @@ fn usage_text() -> &'static str
      simulate FILE RELEASES PATTERN SLOTS | rtds FILE WORKLOAD SLOTS | audit FILE TRACE | bulk N | \
      interface FILE PART DEADLINE | responses FILE | choose FILE PART LOW HIGH | \
      session FILE SCRIPT | place FILE GUESTS | isolate FILE | slack FILE PART | tally FILE TRACE | \
-     version\n"
+     version | steal FILE TRACE\n"
 }
 
 /// The answer to a command, or to words that spell none.
@@ -217,6 +232,10 @@ pub fn answer<S: Store>(alloc: Global, command: Option<Command<'_>>, store: &mut
             ended(over_pieces(alloc, store, file, trace, &judge, &mut None))
         }
         Some(Command::Version) => ended(version(alloc)),
+        Some(Command::Steal(file, trace)) => {
+            let judge = TraceCommand::Steal;
+            ended(over_pieces(alloc, store, file, trace, &judge, &mut None))
+        }
         None => ended(usage(alloc)),
     }
 }

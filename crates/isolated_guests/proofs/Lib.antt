@@ -3,5 +3,5 @@ pub mod Spared
 mod InTrace
 pub mod Kept
 pub mod Answered
-mod Traces
+pub mod Traces
 mod Examples

@@ -36,7 +36,9 @@ use Rattle.rt_report.specs.Isolation.{isolation_text}
 use Rattle.rt_report.specs.Place.{unplaced_text}
 use Rattle.rt_report.specs.Responses.{responses_text}
 use Rattle.rt_report.specs.Session.{session_text}
+use Rattle.auditor.specs.declared.steal.StealFinding.TheVariants.{Yes as NoneDenied, Denied as DeniedAt}
 use Rattle.rt_report.specs.Slack.{slack_text}
+use Rattle.rt_report.specs.Steal.{steal_text}
 use Rattle.rt_report.specs.Tally.{tally_text, tally_words}
 use Rattle.rt_report.specs.Unread.{absent_text, too_long_text}
 use Rattle.rt_report.specs.Version.{version_text}
@@ -306,3 +308,22 @@ a_line_of_a_tally : tally_words (codes "net")
     ≡ codes "vcpu net begun=5 judged=4 short=2 over=1 least_ns=1900 most_ns=2100\n"
 unfolding digits
 a_line_of_a_tally = refl
+
+-- what is stolen: yes, then a line for each part on a core, and none for the parts of a part
+what_is_stolen : steal_text tree (30 ∷ 2 ∷ 28 ∷ 40 ∷ []) (NoneDenied 3)
+    (record { begun = 4; kept = 3; denied = 0; most = Some 20000 }
+    ∷ record { begun = 0; kept = 0; denied = 0; most = None }
+    ∷ record { begun = 9; kept = 9; denied = 9; most = None } ∷ [])
+    ≡ codes
+    "verdict=yes\nperiods=3\nvcpu mid begun=4 kept=3 denied=0 most_ns=20000\nvcpu net begun=0 kept=0 denied=0 most_ns=-\n"
+unfolding digits
+what_is_stolen = refl
+
+-- of a period of 40 slots net may lose 38
+a_denied_period : steal_text tree (30 ∷ 2 ∷ 28 ∷ 40 ∷ []) (DeniedAt 1 4000 38001)
+    (record { begun = 0; kept = 0; denied = 0; most = None }
+    ∷ record { begun = 7; kept = 5; denied = 2; most = Some 38001 } ∷ [])
+    ≡ codes
+    "verdict=no\nstolen net from_ns=4000 got_ns=38001 of_ns=38000\nvcpu mid begun=0 kept=0 denied=0 most_ns=-\nvcpu net begun=7 kept=5 denied=2 most_ns=38001\n"
+unfolding digits
+a_denied_period = refl

@@ -6,7 +6,9 @@ pub mod Responses
 pub mod Simulate
 pub mod Refusal
 pub mod Audit
+pub mod VcpuLines
 pub mod Tally
+pub mod Steal
 pub mod Check
 pub mod Choose
 pub mod Interface

@@ -1,19 +1,13 @@
 -- The text of a tally: that of the audit, and then a line for each VCPU, in the order of the file.
 -- Times are told in nanoseconds.
-use Rattle.std.specs.Prelude.{ℕ, suc, List, [], ◌∷◌, ◌++◌, codes, Option, Some, None, if◌then◌else◌}
+use Rattle.std.specs.Prelude.{ℕ, List, [], ◌∷◌, ◌++◌, codes}
 use Rattle.std.specs.Fmt.{decimal}
 use Rattle.tree_model.specs.View.{SystemView}
-use Rattle.tree_model.specs.System.{part_at}
-use Rattle.trace_file.specs.Rules.{is_vcpu}
 use Rattle.auditor.specs.declared.finding.Finding.{Finding}
 use Rattle.vcpu_watch.specs.declared.tally.Tally.{Tally}
 use Rattle.rt_report.specs.Words.{joined}
 use Rattle.rt_report.specs.Audit.{audit_text}
-
--- a time, and `-` where there is none
-abbrev pub time_words : Option ℕ → List ℕ
-time_words None = codes "-"
-time_words (Some time) = decimal time
+use Rattle.rt_report.specs.VcpuLines.{time_words, vcpu_lines}
 
 -- `vcpu NAME begun=N judged=N short=N over=N least_ns=X most_ns=Y`
 abbrev pub counts_words : Tally → List ℕ
@@ -27,15 +21,9 @@ tally_words name tally = joined (
     ∷ codes " least_ns=" ∷ time_words tally.least
     ∷ codes " most_ns=" ∷ time_words tally.most ∷ codes "\n" ∷ [])
 
--- a part that stands on no core has no line
-abbrev pub tally_line : SystemView → ℕ → Tally → List ℕ
-tally_line sys v tally =
-    if is_vcpu sys v then tally_words (part_at sys v).name tally else []
-
 -- the lines of the parts from v on
 abbrev pub tally_lines : SystemView → ℕ → List Tally → List ℕ
-tally_lines sys v [] = []
-tally_lines sys v (tally ∷ later) = tally_line sys v tally ++ tally_lines sys (suc v) later
+tally_lines = vcpu_lines tally_words
 
 abbrev pub tally_text : SystemView → List ℕ → Finding → List Tally → List ℕ
 tally_text sys budgets finding tallies =

@@ -1,12 +1,12 @@
-ghost use Rattle.std.specs.Prelude.{◌≡◌, ◌++◌, ◌<◌, length, IfOk, OnOk, string_bytes};
+ghost use Rattle.std.specs.Prelude.{◌≡◌, ◌++◌, length, IfOk, OnOk, string_bytes};
 ghost use Rattle.tree_model.specs.Plans.{IsPlan};
 ghost use Rattle.rt_report.specs.Audit.{IsFindingOf};
-ghost use Rattle.rt_report.specs.Tally.{counts_words, tally_line, tally_lines, tally_text, tally_words, time_words};
+ghost use Rattle.rt_report.specs.Tally.{counts_words, tally_text};
 
 use crate::audit::audit_text;
+use crate::vcpu_lines::{VcpuCounts, push_lines, push_time};
 use auditor::{Tallied, Tally};
 use std::alloc::{AllocError, Global};
-use trace_file::is_vcpu;
 use tree_model::{Plan, System};
 
 /// The text of a tally: that of the audit, and then a line for each part that stands on a core, in
@@ -30,39 +30,20 @@ pub fn tally_text(
     Ok(text)
 }
 
-fn push_lines(text: &mut String, sys: &System, tallies: &[Tally]) -> Result<(), AllocError>
-    requires { length tallies.now ≡ length sys.now.parts }
-    ensures { OnOk result (
-        string_bytes text.new ≡ string_bytes text.old ++ tally_lines sys.now 0 tallies.now) }
-{
-    for v in 0..sys.parts().len() as u32 {
-        push_line(text, sys, v, &tallies[v as usize])?;
-    }
-    Ok(())
-}
+impl VcpuCounts for Tally {
+    ghost use Rattle.rt_report.specs.Tally.{tally_words};
 
-fn push_line(text: &mut String, sys: &System, v: u32, tally: &Tally) -> Result<(), AllocError>
-    requires { v < length sys.now.parts }
-    ensures { OnOk result (
-        string_bytes text.new ≡ string_bytes text.old ++ tally_line sys.now v tally.now) }
-{
-    if !is_vcpu(sys, v) {
-        return Ok(());
-    }
-    push_tally(text, sys.parts()[v as usize].name().as_str(), tally)
-}
+    ghost words = { tally_words };
 
-fn push_tally(text: &mut String, name: &str, tally: &Tally) -> Result<(), AllocError>
-    ensures { OnOk result (
-        string_bytes text.new ≡ string_bytes text.old ++ tally_words name.now tally.now) }
-{
-    write!(text, "vcpu {name}")?;
-    push_counts(text, tally)?;
-    text.push_str(" least_ns=")?;
-    push_time(text, tally.least)?;
-    text.push_str(" most_ns=")?;
-    push_time(text, tally.most)?;
-    text.push_str("\n")
+    fn push(&self, text: &mut String, name: &str) -> Result<(), AllocError> {
+        write!(text, "vcpu {name}")?;
+        push_counts(text, self)?;
+        text.push_str(" least_ns=")?;
+        push_time(text, self.least)?;
+        text.push_str(" most_ns=")?;
+        push_time(text, self.most)?;
+        text.push_str("\n")
+    }
 }
 
 fn push_counts(text: &mut String, tally: &Tally) -> Result<(), AllocError>
@@ -74,13 +55,4 @@ fn push_counts(text: &mut String, tally: &Tally) -> Result<(), AllocError>
         " begun={} judged={} short={} over={}",
         tally.begun, tally.judged, tally.short, tally.over
     )
-}
-
-fn push_time(text: &mut String, time: Option<u64>) -> Result<(), AllocError>
-    ensures { OnOk result (string_bytes text.new ≡ string_bytes text.old ++ time_words time) }
-{
-    match time {
-        None => text.push_str("-"),
-        Some(time) => write!(text, "{time}"),
-    }
 }

@@ -5,7 +5,7 @@ use Rattle.std.specs.Prelude.{IsOk, Ok}
 use Rattle.tree_model.specs.View.{SystemView}
 use Rattle.system_file.specs.SystemFile.{system_of}
 use Rattle.command_frame.specs.declared.status.Status.TheVariants.{Usage, BadFile, Absent, TooLong, ReadFault, WriteFault}
-use Rattle.command_line.specs.Commands.{Command, responses, interface, choose, session, place, isolate, slack, tally, version}
+use Rattle.command_line.specs.Commands.{Command, responses, interface, choose, session, place, isolate, slack, tally, version, steal}
 use Rattle.command_frame.specs.Answer.{Contents, IsReadable}
 use Rattle.command_frame.specs.Attempt.{GivesSome}
 use Rattle.host_commands.specs.Session.{scripting}
@@ -73,8 +73,9 @@ each_of_one_file_is_judged file part n m contents = (
 
 each_of_two_files_is_judged : (file other : List ℕ) (contents : Contents) →
     IsJudged (session file other) contents × IsJudged (place file other) contents
-    × IsJudged (tally file other) contents × IsJudged version contents
+    × IsJudged (tally file other) contents × IsJudged version contents × IsJudged (steal file other) contents
 each_of_two_files_is_judged file other contents = (
+  (λ h. h, λ h. h, λ h. h, λ h. h, λ h. h),
   (λ h. h, λ h. h, λ h. h, λ h. h, λ h. h),
   (λ h. h, λ h. h, λ h. h, λ h. h, λ h. h),
   (λ h. h, λ h. h, λ h. h, λ h. h, λ h. h),
@@ -87,4 +88,5 @@ who_refuses_a_file : (file other : List ℕ) (contents : Contents) →
     × (EndsAs (isolate file) contents BadFile → HasOtherCore contents)
     × (EndsAs (responses file) contents BadFile → ⊥) × (EndsAs (session file other) contents BadFile → ⊥)
     × (EndsAs (tally file other) contents BadFile → ⊥) × (EndsAs version contents BadFile → ⊥)
-who_refuses_a_file file other contents = (λ h. h, λ h. h, λ h. h, λ h. h, λ h. h, λ h. h)
+    × (EndsAs (steal file other) contents BadFile → ⊥)
+who_refuses_a_file file other contents = (λ h. h, λ h. h, λ h. h, λ h. h, λ h. h, λ h. h, λ h. h)

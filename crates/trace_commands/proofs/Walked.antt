@@ -17,6 +17,15 @@ use Rattle.auditor.specs.Tally.{IsTalliedOf}
 use Rattle.vcpu_watch.specs.declared.tally.Tally.{Tally}
 use Rattle.auditor.specs.declared.pieces.Audit.{Audit}
 use Rattle.auditor.specs.Pieces.{HasAudited}
+use Rattle.auditor.specs.declared.counted.Counted.{Counted}
+use Rattle.auditor.specs.declared.counted.Counted.TheVariants.{Core, Stolen}
+use Rattle.auditor.specs.declared.steal.StealFinding.{StealFinding}
+use Rattle.auditor.specs.declared.steal.StealFinding.TheVariants.{Yes as NoneDenied, Denied}
+use Rattle.auditor.specs.declared.steal.StealTally.{StealTally}
+use Rattle.auditor.specs.Steal.{IsStealFinding, IsStolenOf}
+use Rattle.tree_model.specs.Admission.{Assigned}
+use Rattle.rt_report.specs.Steal.{steal_text, IsStealOfPart}
+use Rattle.trace_commands.specs.Steal.{steal_status, IsToldSteal, Steals}
 use Rattle.rt_report.specs.declared.fault.FileFault.TheVariants.{Trace}
 use Rattle.rt_report.specs.Audit.{audit_text, IsFindingOf as IsToldOf}
 use Rattle.rt_report.specs.Tally.{tally_text}
@@ -33,28 +42,33 @@ use Rattle.trace_commands.specs.declared.walk.TraceWalk.{TraceWalk}
 use Rattle.trace_commands.specs.declared.walk.Walker.{Walker}
 use Rattle.trace_commands.specs.declared.walk.Walker.TheVariants.{Audits, Checks}
 use Rattle.trace_commands.specs.declared.audit.TraceCommand.{TraceCommand}
-use Rattle.trace_commands.specs.declared.audit.TraceCommand.TheVariants.{Audit as ToAudit, Tally as ToTally}
+use Rattle.trace_commands.specs.declared.audit.TraceCommand.TheVariants.{Audit as ToAudit, Tally as ToTally, Steal as ToSteal}
 use Rattle.trace_commands.specs.Audit.{tracing, finding_status, Audits as AuditsTrace, IsAudited, OnEvents}
 use Rattle.trace_commands.specs.Tally.{IsToldTally, Tallies}
 use Rattle.trace_commands.specs.Told.{trace_says}
-use Rattle.trace_commands.specs.inner.Walk.{HasWalked, HasTakenTrace, IsAuditUnder, IsWaiting, IsUnaudited}
+use Rattle.trace_commands.specs.inner.Walk.{BeginsWalk, HasWalked, HasTakenTrace, IsAuditUnder, IsWaiting, IsUnaudited}
 
--- a walk that began with a system has walked over its trace
-pub walked : (sys : SystemView) (bytes : List ℕ) (now : TraceWalk)
-    → HasTaken (λ (walk : TraceWalk). walk.sys.now ≡ sys) HasTakenTrace bytes now → HasWalked sys bytes now.walker
-walked sys bytes now h = subst (λ (s : SystemView). HasWalked s bytes now.walker) (h.took.same ∙ h.begun) h.took.walked
+-- a walk that began with a system and what to count has walked over its trace
+pub walked : (counted : Counted) (sys : SystemView) (bytes : List ℕ) (now : TraceWalk)
+    → HasTaken (BeginsWalk counted sys) HasTakenTrace bytes now → HasWalked counted sys bytes now.walker
+walked counted sys bytes now h =
+    subst (λ (k : Counted). HasWalked k sys bytes now.walker) (h.took.alike ∙ h.begun.counting)
+    (subst (λ (s : SystemView). HasWalked now.counted s bytes now.walker) (h.took.same ∙ h.begun.over) h.took.walked)
 
 -- one that goes on has taken more
 pub took_more : {Fault : Type 0} (result : Result (Unit {0}) Fault) (old new : TraceWalk) (piece : List ℕ)
-    → new.sys.now ≡ old.sys.now
-    → ((sys : SystemView) (bytes : List ℕ) → HasWalked sys bytes old.walker
-    → OnOk result (HasWalked sys (bytes ++ piece) new.walker)) → OnOk result (Took HasTakenTrace old new piece)
-took_more (Ok done) old new piece same more = λ start bytes h. record {
+    → new.sys.now ≡ old.sys.now → new.counted ≡ old.counted
+    → ((counted : Counted) (sys : SystemView) (bytes : List ℕ) → HasWalked counted sys bytes old.walker
+    → OnOk result (HasWalked counted sys (bytes ++ piece) new.walker)) → OnOk result (Took HasTakenTrace old new piece)
+took_more (Ok done) old new piece same alike more = λ start bytes h. record {
   same = same ∙ h.same;
+  alike = alike ∙ h.alike;
   walked =
-      subst (λ (s : SystemView). HasWalked s (bytes ++ piece) new.walker) (sym same) (more old.sys.now bytes h.walked);
+      subst (λ (k : Counted). HasWalked k new.sys.now (bytes ++ piece) new.walker) (sym alike)
+      (subst (λ (s : SystemView). HasWalked old.counted s (bytes ++ piece) new.walker) (sym same)
+      (more old.counted old.sys.now bytes h.walked));
 }
-took_more (Err fault) old new piece same more = tt
+took_more (Err fault) old new piece same alike more = tt
 
 -- what holds where a call goes well still holds with what follows from it
 still : {Done Fault P Q : Type 0} (result : Result Done Fault) → (P → Q) → OnOk result P → OnOk result Q
@@ -62,26 +76,27 @@ still (Ok done) more holds = more holds
 still (Err fault) more holds = tt
 
 -- an audit that goes on, and a check that does while the refusal waits
-pub audits_on : {Fault : Type 0} (result : Result (Unit {0}) Fault) (sys : SystemView) (bytes piece budgets : List ℕ)
-    (old new : Audit) (walker : Walker) → walker ≡ Audits budgets old → HasWalked sys bytes walker
-    → ((s : SystemView) (b t : List ℕ) → HasAudited s b t old → OnOk result (HasAudited s b (t ++ piece) new))
-    → OnOk result (HasWalked sys (bytes ++ piece) (Audits budgets new))
-audits_on result sys bytes piece budgets old new walker is h take =
-    let under : IsAuditUnder sys bytes budgets old = subst (HasWalked sys bytes) is h in
+pub audits_on : {Fault : Type 0} (result : Result (Unit {0}) Fault) (counted : Counted) (sys : SystemView) (bytes piece budgets : List ℕ)
+    (old new : Audit) (walker : Walker) → walker ≡ Audits budgets old → HasWalked counted sys bytes walker
+    → ((k : Counted) (s : SystemView) (b t : List ℕ) → HasAudited k s b t old
+    → OnOk result (HasAudited k s b (t ++ piece) new))
+    → OnOk result (HasWalked counted sys (bytes ++ piece) (Audits budgets new))
+audits_on result counted sys bytes piece budgets old new walker is h take =
+    let under : IsAuditUnder counted sys bytes budgets old = subst (HasWalked counted sys bytes) is h in
     still result (λ audited. record { assigned = under.assigned; plan = under.plan; audited = audited })
-    (take sys budgets bytes under.audited)
+    (take counted sys budgets bytes under.audited)
 
-pub checking : (sys : SystemView) (bytes : List ℕ) (check : TraceCheck) (refused : Ending) (walker : Walker)
-    → walker ≡ Checks check refused → HasWalked sys bytes walker → HasChecked sys bytes check × IsWaiting sys refused
-checking sys bytes check refused walker is h = subst (HasWalked sys bytes) is h
+pub checking : (counted : Counted) (sys : SystemView) (bytes : List ℕ) (check : TraceCheck) (refused : Ending) (walker : Walker)
+    → walker ≡ Checks check refused → HasWalked counted sys bytes walker → HasChecked sys bytes check × IsWaiting sys refused
+checking counted sys bytes check refused walker is h = subst (HasWalked counted sys bytes) is h
 
-pub checks_on : {Fault : Type 0} (result : Result (Unit {0}) Fault) (sys : SystemView) (bytes piece : List ℕ)
+pub checks_on : {Fault : Type 0} (result : Result (Unit {0}) Fault) (counted : Counted) (sys : SystemView) (bytes piece : List ℕ)
     (old new : TraceCheck) (refused : Ending) (walker : Walker) → walker ≡ Checks old refused
-    → HasWalked sys bytes walker
+    → HasWalked counted sys bytes walker
     → ((s : SystemView) (t : List ℕ) → HasChecked s t old → OnOk result (HasChecked s (t ++ piece) new))
-    → OnOk result (HasWalked sys (bytes ++ piece) (Checks new refused))
-checks_on result sys bytes piece old new refused walker is h take =
-    let taken = checking sys bytes old refused walker is h in
+    → OnOk result (HasWalked counted sys (bytes ++ piece) (Checks new refused))
+checks_on result counted sys bytes piece old new refused walker is h take =
+    let taken = checking counted sys bytes old refused walker is h in
     still result (λ checked. (checked, taken.1)) (take sys bytes taken.0)
 
 -- what is found of a trace is told of a part of the system
@@ -90,6 +105,11 @@ pub told_of_part : (sys : SystemView) (budgets : List ℕ) (events : List Event)
 told_of_part sys budgets events (Kept periods) found = tt
 told_of_part sys budgets events (Short v from got) found = found.short.period.is_part
 told_of_part sys budgets events (Over v from got) found = found.over.period.is_part
+
+pub steal_of_part : (sys : SystemView) (budgets : List ℕ) (events : List Event) (finding : StealFinding)
+    → IsStealFinding sys budgets events finding → IsStealOfPart sys finding
+steal_of_part sys budgets events (NoneDenied periods) found = tt
+steal_of_part sys budgets events (Denied v from stolen) found = found.first.denied.period.is_part
 
 -- a trace that is refused, and then the budgets, is what is said of the bytes, whatever is said of
 -- a trace under budgets
@@ -125,40 +145,53 @@ module _ (sys : SystemView) (bytes : List ℕ) where
       → IfAnswered stop (λ a. trace_says command sys bytes a.status a.text.items)
   refused_said ToAudit stop h = unaudited IsAudited stop h
   refused_said ToTally stop h = unaudited IsToldTally stop h
+  refused_said ToSteal stop h = unaudited IsToldSteal stop h
 
-  -- and what is found and counted is said of it
-  pub found_said : (budgets : List ℕ) (audit : Audit) (finding : Finding) (status : Status) (text : List ℕ)
-      → IsAuditUnder sys bytes budgets audit → IsFindingOf sys budgets bytes finding
-      → status ≡ finding_status finding → text ≡ audit_text sys budgets finding → AuditsTrace sys bytes status text
-  found_said budgets audit finding status text under is status_is told =
+  -- and what is found and counted under the budgets is said of it
+  pub events_said : (Says : SystemView → List ℕ → List Event → Status → List ℕ → Type 0) (budgets : List ℕ)
+      (events : List Event) (status : Status) (text : List ℕ) → Assigned sys budgets
+      → Spells sys (records_of bytes) events → Says sys budgets events status text
+      → OnRead tracing (OnEvents Says) sys bytes status text
+  events_said Says budgets events status text assigned spells said =
       inl (record {
-        value = is.events;
-        gives = is.spelled;
-        said = inl (record {
-          value = budgets;
-          gives = under.assigned;
-          said = record { finding = finding; found = is.found; status_is = status_is; told = told };
-        });
+        value = events;
+        gives = spells;
+        said = inl (record { value = budgets; gives = assigned; said = said });
       })
 
+  pub found_said : (budgets : List ℕ) (audit : Audit) (finding : Finding) (status : Status) (text : List ℕ)
+      → IsAuditUnder Core sys bytes budgets audit → IsFindingOf sys budgets bytes finding
+      → status ≡ finding_status finding → text ≡ audit_text sys budgets finding → AuditsTrace sys bytes status text
+  found_said budgets audit finding status text under is status_is told =
+      events_said IsAudited budgets is.events status text under.assigned is.spelled
+      (record { finding = finding; found = is.found; status_is = status_is; told = told })
+
   pub tallied_said : (budgets : List ℕ) (audit : Audit) (finding : Finding) (tallies : List Tally) (status : Status)
-      (text : List ℕ) → IsAuditUnder sys bytes budgets audit → IsTalliedOf sys budgets bytes finding tallies
+      (text : List ℕ) → IsAuditUnder Core sys bytes budgets audit → IsTalliedOf sys budgets bytes finding tallies
       → status ≡ finding_status finding → text ≡ tally_text sys budgets finding tallies
       → Tallies sys bytes status text
   tallied_said budgets audit finding tallies status text under is status_is told =
-      inl (record {
-        value = is.events;
-        gives = is.spelled;
-        said = inl (record {
-          value = budgets;
-          gives = under.assigned;
-          said = record {
-            finding = finding;
-            found = is.found;
-            tallies = tallies;
-            counted = is.counted;
-            status_is = status_is;
-            told = told;
-          };
-        });
+      events_said IsToldTally budgets is.events status text under.assigned is.spelled
+      (record {
+        finding = finding;
+        found = is.found;
+        tallies = tallies;
+        counted = is.counted;
+        status_is = status_is;
+        told = told;
+      })
+
+  pub stolen_said : (budgets : List ℕ) (audit : Audit) (finding : StealFinding) (tallies : List StealTally)
+      (status : Status) (text : List ℕ) → IsAuditUnder Stolen sys bytes budgets audit
+      → IsStolenOf sys budgets bytes finding tallies → status ≡ steal_status finding
+      → text ≡ steal_text sys budgets finding tallies → Steals sys bytes status text
+  stolen_said budgets audit finding tallies status text under is status_is told =
+      events_said IsToldSteal budgets is.events status text under.assigned is.spelled
+      (record {
+        finding = finding;
+        found = is.found;
+        tallies = tallies;
+        counted = is.counted;
+        status_is = status_is;
+        told = told;
       })

@@ -1,5 +1,6 @@
 pub mod Audit
 pub mod Tally
+pub mod Steal
 pub mod Told
 pub mod Simulate
 pub mod Rtds

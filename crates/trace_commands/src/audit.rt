@@ -1,13 +1,14 @@
 ghost use Rattle.std.specs.Prelude.{◌≡◌, List, ℕ};
 ghost use Rattle.command_frame.specs.Steps.{ending_of, IfAnswered, EndsJudged};
 ghost use Rattle.trace_commands.specs.Audit.{finding_status};
-ghost use Rattle.trace_commands.specs.Told.{trace_says};
-ghost use Rattle.trace_commands.specs.inner.Walk.{IsAuditUnder};
+ghost use Rattle.trace_commands.specs.Steal.{steal_status};
+ghost use Rattle.trace_commands.specs.Told.{counted_by, trace_says};
+ghost use Rattle.trace_commands.specs.inner.Walk.{BeginsWalk, IsAuditUnder};
 
 use crate::walk::TraceWalk;
-use auditor::{Audit, Finding};
+use auditor::{Audit, Counted, Finding, StealFinding};
 use command_frame::{Answer, Ending, JudgePieces, Status, spelled};
-use rt_report::{audit_text, tally_text};
+use rt_report::{audit_text, steal_text, tally_text};
 use std::alloc::Global;
 use tree_model::{Plan, System};
 
@@ -19,6 +20,9 @@ pub enum TraceCommand {
     Audit,
     /// `tally FILE TRACE`: what `audit` answers, and what is counted of each VCPU.
     Tally,
+    /// `steal FILE TRACE`: whether in each period no more is stolen from a VCPU than the period has
+    /// beyond its budget, and what is counted of each.
+    Steal,
 }
 
 impl<'s> JudgePieces<'s> for TraceCommand {
@@ -26,16 +30,27 @@ impl<'s> JudgePieces<'s> for TraceCommand {
 
     ghost says = { trace_says };
 
-    ghost begins = { λ _ sys walk. walk.sys.now ≡ sys };
+    ghost begins = { λ command sys walk. BeginsWalk (counted_by command) sys walk };
 
     fn begin(&self, alloc: Global, sys: &'s System) -> Result<TraceWalk<'s>, Ending> {
-        TraceWalk::new(alloc, sys)
+        TraceWalk::new(alloc, sys, counted_by(*self))
     }
 
-    // Where no budgets are assigned the answer is the same to both.
+    // Where no budgets are assigned the answer is the same to all.
     fn end(&self, alloc: Global, sys: &System, walk: TraceWalk<'s>) -> Result<Answer, Ending> {
         let (plan, audit) = walk.audited(alloc)?;
         answer_of(*self, alloc, sys, &plan, audit)
+    }
+}
+
+/// Which time of a VCPU the command counts.
+fn counted_by(command: TraceCommand) -> Counted
+    ensures { result ≡ counted_by command }
+{
+    match command {
+        TraceCommand::Audit => Counted::Core,
+        TraceCommand::Tally => Counted::Core,
+        TraceCommand::Steal => Counted::Stolen,
     }
 }
 
@@ -47,8 +62,10 @@ fn answer_of(
     plan: &Plan,
     audit: Audit<'_>,
 ) -> Result<Answer, Ending>
-    requires { (bytes : List ℕ) × IsAuditUnder sys.now bytes plan.now audit }
-    ensures answer { (bytes : List ℕ) → IsAuditUnder sys.now bytes plan.now audit.entry
+    requires { (bytes : List ℕ)
+        × IsAuditUnder (counted_by command) sys.now bytes plan.now audit }
+    ensures answer { (bytes : List ℕ)
+        → IsAuditUnder (counted_by command) sys.now bytes plan.now audit.entry
         → IfAnswered (ending_of result)
         (λ a. trace_says command sys.now bytes a.status a.text.items) }
     ensures judged { EndsJudged (ending_of result) }
@@ -68,6 +85,13 @@ fn answer_of(
                 text: tally_text(alloc, sys, plan, &tallied)?,
             })
         }
+        TraceCommand::Steal => {
+            let stolen = spelled(alloc, audit.finish_stolen(alloc))?;
+            Ok(Answer {
+                status: steal_status_of(stolen.finding),
+                text: steal_text(alloc, sys, plan, &stolen)?,
+            })
+        }
     }
 }
 
@@ -78,5 +102,14 @@ fn status_of(finding: Finding) -> Status
         Finding::Yes { .. } => Status::Yes,
         Finding::Short { .. } => Status::No,
         Finding::Over { .. } => Status::No,
+    }
+}
+
+fn steal_status_of(finding: StealFinding) -> Status
+    ensures { result ≡ steal_status finding }
+{
+    match finding {
+        StealFinding::Yes { .. } => Status::Yes,
+        StealFinding::Denied { .. } => Status::No,
     }
 }

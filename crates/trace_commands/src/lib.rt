@@ -1,4 +1,4 @@
-//! Runs and their traces: `audit`, `tally`, `simulate`, `rtds` and `isolate`.
+//! Runs and their traces: `audit`, `tally`, `steal`, `simulate`, `rtds` and `isolate`.
 #![tactic(auto)]
 
 mod audit;

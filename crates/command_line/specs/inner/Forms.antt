@@ -11,3 +11,6 @@ forms_from_responses = drop 8 forms
 
 abbrev pub forms_from_isolate : List (Form Command)
 forms_from_isolate = drop 12 forms
+
+abbrev pub forms_from_steal : List (Form Command)
+forms_from_steal = drop 16 forms

@@ -1,5 +1,5 @@
 -- What `tally` tells of a trace, and what it means.
-use Rattle.std.proofs.Common.{◌≡◌, ℕ, List, length, sym, ◌∙◌, ap, subst}
+use Rattle.std.proofs.Common.{◌≡◌, ◌⊎◌, ℕ, List, length, sym, ◌∙◌, ap, subst}
 use Rattle.slot_model.specs.Slots.{sum_below}
 use Rattle.tree_model.specs.View.{SystemView}
 use Rattle.tree_model.specs.System.{IsSystem}
@@ -13,12 +13,12 @@ use Rattle.auditor.proofs.OneFinding.{one_finding}
 use Rattle.auditor.proofs.OneTally.{one_tallies, judged_sum}
 use Rattle.rt_report.specs.Tally.{tally_text}
 use Rattle.command_frame.specs.declared.status.Status.{Status}
-use Rattle.command_frame.specs.declared.status.Status.TheVariants.{Yes}
+use Rattle.command_frame.specs.declared.status.Status.TheVariants.{Yes, No}
 use Rattle.command_frame.specs.Answer.{IsOne}
 use Rattle.trace_commands.specs.Audit.{finding_status, TellsSatisfied}
 use Rattle.trace_commands.specs.Tally.{the_tally, IsToldTally, TellsTally}
 use Rattle.command_frame.proofs.CommandLaws.{CommandLaws}
-use Rattle.trace_commands.proofs.Laws.Traced.{finding_tells, trace_laws}
+use Rattle.trace_commands.proofs.Laws.Traced.{finding_is, finding_tells, trace_laws}
 
 -- one answer
 one_told : (sys : SystemView) (budgets : List ℕ) (events : List Event) → IsOne (IsToldTally sys budgets events)
@@ -60,6 +60,8 @@ pub tally_laws : (file trace : List ℕ) → CommandLaws (the_tally file trace)
 tally_laws file trace =
     trace_laws IsToldTally TellsTally (record {
       one = one_told;
-      status = λ sys budgets events status text h. (h.finding, h.status_is);
-      means = told_tells;
+      status =
+          λ sys budgets events status text h. subst (λ (s : Status). (s ≡ Yes) ⊎ (s ≡ No)) (sym h.status_is)
+          (finding_is h.finding);
+      means = λ sys is budgets plan. told_tells sys is budgets;
     }) file trace

@@ -1,9 +1,11 @@
 -- What a command answers that audits a trace, whatever it tells of it: one thing, its statuses, and
 -- what it means.
-use Rattle.std.proofs.Common.{◌≡◌, ℕ, List, refl, sym, subst, inl, inr}
+use Rattle.std.proofs.Common.{◌≡◌, ◌⊎◌, ℕ, List, refl, sym, subst, inl, inr}
 use Rattle.csv_rows.specs.Reading.{records_of}
 use Rattle.tree_model.specs.View.{SystemView}
 use Rattle.tree_model.specs.System.{IsSystem}
+use Rattle.tree_model.specs.Plans.{IsPlan}
+use Rattle.tree_model.proofs.InRange.{assigned_is_plan}
 use Rattle.trace_file.specs.declared.event.Event.{Event}
 use Rattle.trace_file.specs.File.{rows_of}
 use Rattle.trace_file.proofs.Same.{same_events, no_fault, one_file_fault}
@@ -31,10 +33,14 @@ tracing_decided sys bytes = record {
   one_refusal = one_file_fault sys (rows_of (records_of bytes));
 }
 
-finding_is : (P : Status → Type 0) → P Yes → P No → (finding : Finding) → P (finding_status finding)
-finding_is P at_yes at_no (Kept periods) = at_yes
-finding_is P at_yes at_no (Short v from got) = at_no
-finding_is P at_yes at_no (Over v from got) = at_no
+yes_or_no : (P : Status → Type 0) → P Yes → P No → (status : Status) → (status ≡ Yes) ⊎ (status ≡ No) → P status
+yes_or_no P at_yes at_no status is =
+    elim is [ inl so ↦ subst P (sym so) at_yes | inr so ↦ subst P (sym so) at_no ]
+
+pub finding_is : (finding : Finding) → (finding_status finding ≡ Yes) ⊎ (finding_status finding ≡ No)
+finding_is (Kept periods) = inl refl
+finding_is (Short v from got) = inr refl
+finding_is (Over v from got) = inr refl
 
 pub finding_tells : (sys : SystemView) (budgets : List ℕ) (events : List Event) (finding : Finding)
     → IsFinding sys budgets events finding → TellsSatisfied sys budgets events (finding_status finding)
@@ -48,13 +54,13 @@ finding_tells sys budgets events (Over v from got) found =
     record
     { only = λ told. absurd (cc); always = λ satisfied. absurd (satisfied v found.start found.period (inr found.over)) }
 
--- what is said of a trace under budgets is one thing, has the status of a finding, and means this
+-- what is said of a trace under budgets is one thing, is yes or no, and means this
 pub record TellsTrace (Says Tells : SystemView → List ℕ → List Event → Status → List ℕ → Type 0) : Type 0 where
   pub one : (sys : SystemView) (budgets : List ℕ) (events : List Event) → IsOne (Says sys budgets events)
   pub status : (sys : SystemView) (budgets : List ℕ) (events : List Event) (status : Status) (text : List ℕ)
-      → Says sys budgets events status text → (finding : Finding) × (status ≡ finding_status finding)
+      → Says sys budgets events status text → (status ≡ Yes) ⊎ (status ≡ No)
   pub means : (sys : SystemView) → IsSystem sys
-      → (budgets : List ℕ) (events : List Event) (status : Status) (text : List ℕ)
+      → (budgets : List ℕ) → IsPlan sys budgets → (events : List Event) (status : Status) (text : List ℕ)
       → Says sys budgets events status text → Tells sys budgets events status text
 
 module _ (Says Tells : SystemView → List ℕ → List Event → Status → List ℕ → Type 0) (told : TellsTrace Says Tells) where
@@ -63,8 +69,7 @@ module _ (Says Tells : SystemView → List ℕ → List Event → Status → Lis
       → OnEvents Says sys events status text → P status
   events_status P at_yes at_no at_wide sys events status text h =
       statuses_assigned P at_no at_wide sys (λ budgets. Says sys budgets events) status text
-      (λ budgets said. let found = told.status sys budgets events status text said in
-      subst P (sym found.1) (finding_is P at_yes at_no found.0)) h
+      (λ budgets said. yes_or_no P at_yes at_no status (told.status sys budgets events status text said)) h
 
   reads : JudgesRead tracing (OnEvents Says)
   reads = record {
@@ -82,7 +87,7 @@ module _ (Says Tells : SystemView → List ℕ → List Event → Status → Lis
       → IsAuditOf contents sys budgets events → Tells sys budgets events status text
   tells_trace contents status text h = λ sys budgets events of.
       let is : IsSystem sys = is_spelled_system contents sys _ of.spelled in
-      told.means sys is budgets events status text
+      told.means sys is budgets (assigned_is_plan sys is budgets of.assigned) events status text
       (said_of_assigned sys is (λ b. Says sys b events) status text budgets of.assigned
       (said_of_read tracing (OnEvents Says) reads contents sys events status text of.spelled h))
 

@@ -5,14 +5,19 @@ use Rattle.tree_model.specs.View.{SystemView}
 use Rattle.auditor.specs.declared.verdict.Tallied.{Tallied}
 use Rattle.auditor.specs.Finding.{IsFindingOf}
 use Rattle.auditor.specs.Tally.{IsTalliedOf}
-use Rattle.trace_commands.proofs.Walked.{found_said, refused_said, tallied_said, told_of_part, unspelled}
+use Rattle.auditor.specs.declared.steal.Stolen.{Stolen}
+use Rattle.auditor.specs.Steal.{IsStolenOf}
+use Rattle.trace_commands.proofs.Walked.{found_said, refused_said, steal_of_part, stolen_said, tallied_said, told_of_part, unspelled}
 use Rattle.trace_commands.proofs.audit.answer_of.Goals as goal
-use Rattle.trace_commands.proofs.audit.answer_of.Goals.{After-status_of-in-Tally}
+use Rattle.trace_commands.proofs.audit.answer_of.Goals.{After-status_of-in-Tally, After-steal_status_of}
 
 -- what is said of a result holds of its value
 of_value : {Value Fault : Type 0} (Said : Value → Type 0) (made : Result Value Fault) (value : Value)
     → made ≡ Ok value → IfOk made Said → Said value
 of_value Said made value is said = subst (λ r. IfOk r Said) is said
+
+abbrev Steals : SystemView → List ℕ → List ℕ → Stolen → Type 0
+Steals sys budgets bytes t = IsStolenOf sys budgets bytes t.finding t.vcpus.items
 
 abbrev Tallies : SystemView → List ℕ → List ℕ → Tallied → Type 0
 Tallies sys budgets bytes t = IsTalliedOf sys budgets bytes t.finding t.vcpus.items
@@ -73,3 +78,36 @@ returns-in_ok-tally_text-in-Tally-clause-answer c = λ bytes under.
     c.finish_tallied.result c.in_ok-tallied-in-Tally.tallied c.in_ok-tallied-in-Tally.ensures.value
     (c.finish_tallied.ensures.tallied c.args.sys.now c.args.plan.now bytes under.audited))
     c.status_of-in-Tally.ensures c.in_ok-tally_text-in-Tally.ensures)
+
+pub returns-in_err-stolen-in-Steal-clause-answer : goal.returns-in_err-stolen-in-Steal-clause-answer
+returns-in_err-stolen-in-Steal-clause-answer c = λ bytes under.
+    rw (err_is c.from_residual-in_err-stolen-in-Steal.result _ c.from_residual-in_err-stolen-in-Steal.ensures.1)
+    (refused_said c.args.sys.now bytes c.args.command c.in_err-stolen-in-Steal.field-0.0
+    (unspelled c.args.sys.now bytes c.finish_stolen.result
+    (c.finish_stolen.ensures.fault c.args.sys.now c.args.plan.now bytes under.audited)
+    c.in_err-stolen-in-Steal.field-0.0 c.in_err-stolen-in-Steal.ensures.refused))
+
+stolen_of : (c : After-steal_status_of)
+    → Steals c.args.sys.now c.args.plan.now c.requires.0 c.in_ok-stolen-in-Steal.stolen
+stolen_of c =
+    of_value (Steals c.args.sys.now c.args.plan.now c.requires.0) c.finish_stolen.result
+    c.in_ok-stolen-in-Steal.stolen c.in_ok-stolen-in-Steal.ensures.value
+    (c.finish_stolen.ensures.stolen c.args.sys.now c.args.plan.now c.requires.0 c.requires.1.audited)
+
+pub steal_text-requires-clause-part : goal.steal_text-requires-clause-part
+steal_text-requires-clause-part c =
+    let is = stolen_of (goal.at.steal_text-requires-clause-part c).After-steal_status_of in
+    steal_of_part c.args.sys.now c.args.plan.now is.events c.in_ok-stolen-in-Steal.stolen.finding is.found
+
+pub steal_text-requires-clause-each_part : goal.steal_text-requires-clause-each_part
+steal_text-requires-clause-each_part c =
+    (stolen_of (goal.at.steal_text-requires-clause-each_part c).After-steal_status_of).counted.each_part
+
+pub returns-in_ok-steal_text-in-Steal-clause-answer : goal.returns-in_ok-steal_text-in-Steal-clause-answer
+returns-in_ok-steal_text-in-Steal-clause-answer c = λ bytes under.
+    rw c.in-Steal.is
+    (stolen_said c.args.sys.now bytes c.args.plan.now _ c.in_ok-stolen-in-Steal.stolen.finding _ _ _ under
+    (of_value (Steals c.args.sys.now c.args.plan.now bytes)
+    c.finish_stolen.result c.in_ok-stolen-in-Steal.stolen c.in_ok-stolen-in-Steal.ensures.value
+    (c.finish_stolen.ensures.stolen c.args.sys.now c.args.plan.now bytes under.audited))
+    c.steal_status_of.ensures c.in_ok-steal_text-in-Steal.ensures)
