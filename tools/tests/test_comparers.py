@@ -57,7 +57,7 @@ part B given=4 jobs=0 missed=0"""
 RUN = "0,cpu0,start,A 0,cpu0,run,A 6,cpu0,stop, 10,,end,"
 
 CORE = [((10, 4), (10, 6))]
-BOTH = ["isolated c0v0 last=10 of=10", "isolated c0v1 last=10 of=10"]
+BOTH, SUM = ["isolated c0v0 last=10 of=10", "isolated c0v1 last=10 of=10"], "core c0 budgets=10 shortest=10"
 
 
 def says(status, *lines):
@@ -109,7 +109,10 @@ ROWS = (
     *((schedules.simulated, EARLY, says(1, text), {}, "slot by slot:")
       for text in (LACKS.replace("missed=1", "missed=0"), LACKS.replace("got=4", "got=3"), "verdict=yes")),
     (schedules.as_slot_by_slot, START, says(0, *trace(RUN.replace("6,", "7,")).split()), {}, "slot by slot:"),
-    (kept_of, CORE, says(0, "verdict=yes", *BOTH), {}, None),
+    (kept_of, CORE, says(0, "verdict=yes", *BOTH, SUM), {}, None),
+    *((kept_of, CORE, says(0, "verdict=yes", *BOTH, *more), {}, "does not tell the budgets and the shortest period")
+      for more in ((), (SUM, SUM), [SUM.replace("10 ", "9 ")])),
+    (kept_of, CORE, says(1, "verdict=no", BOTH[0], "exposed c0v1 by=block", SUM), {}, "or they do not decide"),
     # each part on a core has its line, with its period, and no other has one; and the verdict is that of the lines
     *((kept_of, CORE, says(status, f"verdict={'no' if status else 'yes'}", *told), {}, "does not tell of each VCPU") for status, *told in (
         (1, *BOTH), (0, BOTH[0], "isolated c0v2 last=10 of=10"), (0, *BOTH, "isolated on-c0v0 last=1 of=40"),
@@ -289,7 +292,7 @@ class Isolations(support.Case):
         return None
 
     def test_a_wrong_search_is_seen_on_a_small_core(self):
-        self.stand_in(isolations, exposed=lambda *_: [])
+        self.stand_in(isolations, exposed=lambda *_: [], sums=lambda *_: None)
         for name, room in {
             "right": StandIn(),
             "without the part of a begun period": StandIn(lambda period, budget, slots: slots // period * budget),
