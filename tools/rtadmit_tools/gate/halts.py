@@ -53,7 +53,8 @@ def can_be_late(vcpus, v, sched, tasks, tie):
     slots of its period that are past and those that it had, and of each task what `responses` has of it. A VCPU that starts at a slot is
     as one that started whole periods before, so at first each is anywhere in a period of which it had nothing."""
     rest = tuple((task.period + task.jitter, 0, 0) for task in tasks)
-    todo = [(begin, rest) for begin in itertools.product(*([(at, 0) for at in range(period)] for period, _ in vcpus)) if begin[v] == (0, 0)]
+    begins = itertools.product(*([(at, 0) for at in range(period if u != v else 1)] for u, (period, _) in enumerate(vcpus)))
+    todo = [(begin, rest) for begin in begins]
     seen = set(todo)
     while todo:
         state, before = todo.pop()
@@ -78,7 +79,8 @@ def kept_of(room, system):
     if not answer.is_yes:
         need(answer.status in (1, 4), f"`admit`: status {answer.status}: {answer.text}")
         return None, None
-    return {name: budget for name, (budget, _) in answer.budgets().items()}, expose.kept_of(room.run("isolate", "system.toml"), "system.toml")
+    kept = expose.kept_of(room.run("isolate", "system.toml"), "system.toml")
+    return {name: budget for name, (budget, _) in answer.budgets().items()}, kept
 
 
 def small(room, made):
@@ -218,7 +220,8 @@ def add_words(parser):
 
 def run(given):
     least = {"isolated": 3 * FEW, "ties": 3, "block": FEW, "late where it is exposed": 2}
-    by_all = compare(given, "small guests, by all that can happen", small, small_guests(given.seed, SMALL * given.number), least, heavy=True)
+    guests, runs = small_guests(given.seed, SMALL * given.number), hosts(given.seed, RUNS * given.number)
+    by_all = compare(given, "small guests, by all that can happen", small, guests, least, heavy=True)
     least = {"isolated": RUNS // 2, "block": FEW, "denied where it is exposed": 2}
-    by_runs = compare(given, "hosts whose guests halt, each over a run", over_runs, hosts(given.seed, RUNS * given.number), least, heavy=True)
+    by_runs = compare(given, "hosts whose guests halt, each over a run", over_runs, runs, least, heavy=True)
     return int(not (by_all and by_runs))

@@ -13,8 +13,8 @@ What is no such text has a key of its own: `events` of `rtds`, `system` of `plac
     ::error file=FILE,line=LINE::COMMAND: the program's line, and of a fault what tools/host why finds
 
 The file and the line are those in which the fault is; of a row of a script that is not taken, of a guest that has no core and of a
-period that is short, over or denied it is the second file, with the row, or the first row from that moment on; else it is the system file, with the
-line of the name. What is not found is left out."""
+period that is short, over or denied it is the second file, with the row, or the first row from that moment on; else it is the system
+file, with the line of the name. What is not found is left out."""
 import csv
 import io
 import itertools
