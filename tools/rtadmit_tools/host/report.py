@@ -198,7 +198,7 @@ class Page:
             return banner("no", "Guests that slept: no.", f"{names_of(denied)} {cause}.")
         kept = " Each guest without parts of its own that slept only while it had nothing to do kept its deadlines up to the end."
         kept *= self.asked.admit.is_yes
-        return banner("yes", "Guests that slept: yes.", f"From no VCPU so much time was stolen that it lacked its budget.{kept}")
+        return banner("yes", "Guests that slept: yes.", f"In no period was so much time stolen that less than the budget was left.{kept}")
 
     # The cores
 
