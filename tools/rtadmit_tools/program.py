@@ -15,9 +15,9 @@ SPOT = re.compile(r"at=((?:core|part) \d+(?: task \d+)?)")
 # the words that stand alone in a line, behind its first one
 ALONE = {
     "part": ("name", "how"), "core": ("name",), "witness": ("name",), "overfull": ("node", "name"), "wide": ("node", "name"),
-    "flaw": ("node", "name"), "first": ("task",), "short": ("name",), "over": ("name",), "isolated": ("name",), "exposed": ("name",),
-    "vcpu": ("name",), "response": ("name", "task"), "interface": ("name",), "choose": ("name",), "nothing": (), "unplaced": ("name",),
-    "slack": ("name", "task"), "yes": (), "refused": ("fault",), "fault": (), "absent": (), "toolong": (), "periods": (), "guests": (),
+    "flaw": ("node", "name"), "first": ("task",), "short": ("name",), "over": ("name",), "stolen": ("name",), "isolated": ("name",),
+    "exposed": ("name",), "vcpu": ("name",), "response": ("name", "task"), "interface": ("name",), "choose": ("name",), "nothing": (),
+    "unplaced": ("name",), "slack": ("name", "task"), "yes": (), "refused": ("fault",), "fault": (), "absent": (), "toolong": (), "periods": (), "guests": (),
 }
 
 

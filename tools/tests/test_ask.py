@@ -41,8 +41,12 @@ TEXTS = (
     ("audit F T", 1, "verdict=no\nshort A from_ns=1 got_ns=2 of_ns=3\n", "short name=A from_ns=1 got_ns=2 of_ns=3"),
     ("tally F T", 1, "verdict=no\nover A from_ns=1 got_ns=4 of_ns=3\nvcpu A begun=1 judged=0 short=0 over=1 least_ns=- most_ns=4\n",
      "over name=A from_ns=1 got_ns=4 of_ns=3", "vcpu name=A begun=1 judged=0 short=0 over=1 least_ns=None most_ns=4"),
-    ("isolate F", 1, "verdict=no\nisolated A last=9 of=10\nexposed B by=ties last=9 of=10\nexposed C by=block\n",
-     "isolated name=A last=9 of=10", "exposed name=B by=ties last=9 of=10", "exposed name=C by=block"),
+    ("steal F T", 1, "verdict=no\nstolen A from_ns=1 got_ns=4 of_ns=3\nvcpu A begun=1 kept=0 denied=1 most_ns=4\n"
+     "vcpu B begun=0 kept=0 denied=0 most_ns=-\n", "stolen name=A from_ns=1 got_ns=4 of_ns=3",
+     "vcpu name=A begun=1 kept=0 denied=1 most_ns=4", "vcpu name=B begun=0 kept=0 denied=0 most_ns=None"),
+    ("isolate F", 1, "verdict=no\nisolated A last=9 of=10\nexposed B by=ties last=9 of=10\nexposed C by=block\n"
+     "core c budgets=12 shortest=10\n", "isolated name=A last=9 of=10", "exposed name=B by=ties last=9 of=10", "exposed name=C by=block",
+     "core name=c budgets=12 shortest=10"),
     ("bulk 8", 0, "verdict=yes\nguests=8 cores=1 budgets=2 jobs=3 missed=0 pending=4\n",
      "guests guests=8 cores=1 budgets=2 jobs=3 missed=0 pending=4"),
     ("responses F", 0, "verdict=yes\nresponse p t worst=5 limit=9 replay=5\nresponse p u worst=5 limit=9 replay=skipped\n",
@@ -78,6 +82,8 @@ ANNOTATED = (
     (f"slack {LEAF} none", 3, "fault=NoSuchLeaf file=1\n", f"file={LEAF}::slack: fault=NoSuchLeaf file=1"),
     (f"audit {SHARED} examples/shared-short.csv", 1, "verdict=no\nshort B from_ns=3000 got_ns=3000 of_ns=4000\n",
      "file=examples/shared-short.csv,line=5::audit: short B from_ns=3000 got_ns=3000 of_ns=4000"),
+    (f"steal {SHARED} examples/shared-short.csv", 1, "verdict=no\nstolen B from_ns=3000 got_ns=7000 of_ns=6000\n",
+     "file=examples/shared-short.csv,line=5::steal: stolen B from_ns=3000 got_ns=7000 of_ns=6000"),
     (f"audit {SHARED} {LEAF}", 3, "fault=BadHeader row=1 file=2\n",
      f"file={LEAF},line=1::audit: fault=BadHeader row=1 file=2: row 1: "),
     (f"check {LEAF} examples/leaf-spoilt.cert", 1, "verdict=no\nflaw=Cover part leaf\n",

@@ -15,8 +15,8 @@ from rtadmit_tools.program import Answer, Program, program_of
 from rtadmit_tools.system_file import System
 from support import needs_program, program, trace
 
-generated, responses, slacks, tallies, isolations, schedules, interfaces = (
-    support.verb("gate", name) for name in ("generated", "responses", "slacks", "tallies", "isolations", "schedules", "interfaces"))
+generated, responses, slacks, tallies, isolations, halts, schedules, interfaces = (support.verb("gate", name) for name in (
+    "generated", "responses", "slacks", "tallies", "isolations", "halts", "schedules", "interfaces"))
 
 
 def guest(sched, period, budget, *tasks):
@@ -40,6 +40,12 @@ TRACE = trace("0,c,start,a 0,c,run,a 1400,c,stop, 2000,c,run,a 2500,c,stop, 4100
 LINES = ["vcpu a begun=4 judged=2 short=1 over=1 least_ns=500 most_ns=1400",
          "vcpu b begun=0 judged=0 short=0 over=0 least_ns=- most_ns=-"]
 
+STOLEN = ["verdict=no", "stolen a from_ns=2000 got_ns=1500 of_ns=1000", "vcpu a begun=4 kept=1 denied=2 most_ns=1900",
+          "vcpu b begun=0 kept=0 denied=0 most_ns=-"]
+# B with 2 in 5 behind A, which has 2 of every 4, and what makes it isolated
+BEHIND = ([4], 0, 1, 2, "edf", responses.tasks_of((5, 5, 2)))
+IS_TOLD = """if [ $1 = admit ]; then {}; else {}; fi""".format(
+    "echo verdict=yes; echo part leaf period=2 budget=1 computed; echo part v0 period=4 budget=2 given", "echo verdict={}; echo {}")
 # two guests of 6 in 10 on one core, and their run: B has 4, and what B gets is seen 2 slots too late
 GUESTS = tree([core()], [part(name, "cpu0", "edf", 10, 6, [task("t", 100, 6)]) for name in "AB"])
 EARLY, START = (GUESTS, [], "early", 10), (GUESTS, [(0, "A", "start")], 10)
@@ -51,7 +57,7 @@ part B given=4 jobs=0 missed=0"""
 RUN = "0,cpu0,start,A 0,cpu0,run,A 6,cpu0,stop, 10,,end,"
 
 CORE = [((10, 4), (10, 6))]
-BOTH = ["isolated c0v0 last=10 of=10", "isolated c0v1 last=10 of=10"]
+BOTH, SUM = ["isolated c0v0 last=10 of=10", "isolated c0v1 last=10 of=10"], "core c0 budgets=10 shortest=10"
 
 
 def says(status, *lines):
@@ -94,11 +100,19 @@ ROWS = (
     (tallies.told_as_counted, (SYSTEM, TRACE), tally(*LINES), {"not satisfied": 1}, None),
     *((tallies.told_as_counted, (SYSTEM, TRACE), tally(*lines), {}, "counted:")
       for lines in (LINES[:1], [LINES[0].replace("least_ns=500", "least_ns=0"), LINES[1]], [])),
+    (tallies.stolen_as_counted, (SYSTEM, TRACE), says(1, *STOLEN), {"denied": 1}, None),
+    (tallies.stolen_as_counted, (SYSTEM, TRACE), says(1, *STOLEN).replace("kept=1", "kept=2"), {}, "counted:"),
+    (halts.small, BEHIND, IS_TOLD.format("no", "exposed leaf by=block"), {"block": 1, "late where it is exposed": 1}, None),
+    (halts.small, BEHIND, IS_TOLD.format("yes", "isolated leaf last=2 of=2"), {}, "a job of it can be late"),
+    (halts.small, BEHIND, says(1, "verdict=no", "overfull part leaf at=5"), {"not admitted": 1}, None),
     (schedules.simulated, EARLY, says(1, LACKS), {"missed": 1}, None),
     *((schedules.simulated, EARLY, says(1, text), {}, "slot by slot:")
       for text in (LACKS.replace("missed=1", "missed=0"), LACKS.replace("got=4", "got=3"), "verdict=yes")),
     (schedules.as_slot_by_slot, START, says(0, *trace(RUN.replace("6,", "7,")).split()), {}, "slot by slot:"),
-    (kept_of, CORE, says(0, "verdict=yes", *BOTH), {}, None),
+    (kept_of, CORE, says(0, "verdict=yes", *BOTH, SUM), {}, None),
+    *((kept_of, CORE, says(0, "verdict=yes", *BOTH, *more), {}, "does not tell the budgets and the shortest period")
+      for more in ((), (SUM, SUM), [SUM.replace("10 ", "9 ")])),
+    (kept_of, CORE, says(1, "verdict=no", BOTH[0], "exposed c0v1 by=block", SUM), {}, "or they do not decide"),
     # each part on a core has its line, with its period, and no other has one; and the verdict is that of the lines
     *((kept_of, CORE, says(status, f"verdict={'no' if status else 'yes'}", *told), {}, "does not tell of each VCPU") for status, *told in (
         (1, *BOTH), (0, BOTH[0], "isolated c0v2 last=10 of=10"), (0, *BOTH, "isolated on-c0v0 last=1 of=40"),
@@ -145,7 +159,7 @@ class Loop(support.Case):
 class Made(unittest.TestCase):
     def test_they_are_the_same_on_each_run(self):
         slack_files = lambda seed, count: [system.text() for system, _ in slacks.made(seed, count, 60, False)]
-        for makes in (generated.made, tallies.made, schedules.some_runs, schedules.some_workloads, slack_files):
+        for makes in (generated.made, tallies.made, schedules.some_runs, schedules.some_workloads, slack_files, halts.hosts):
             made = lambda seed: list(makes(seed, 3))
             self.assertEqual(made(7), made(7))
             self.assertNotEqual(made(7), made(8))
@@ -219,6 +233,18 @@ class Found(unittest.TestCase):
         ):
             self.assertEqual(isolations.reaches_short(core, place, last, tie), reaches, (core, place, last))
 
+    def test_jobs_that_are_late_in_guests_that_halt(self):
+        for core, sched, tasks, is_late in (
+            # behind one that takes two whole budgets of four slots at once, and at a period of 2 for both
+            (((2, 1), (4, 2)), "edf", [(5, 5, 2)], True), (((2, 1), (2, 1)), "edf", [(5, 5, 2)], False),
+            # alone, awake with nothing to do until its budget is used: of five slots two are left, and three with another budget
+            (((2, 1),), "rm", [(5, 5, 3)], True), (((3, 2),), "rm", [(5, 5, 3)], False), (((3, 2),), "edf", [(5, 5, 4)], True),
+            # a job that comes late is due as if it had not, and one that ranks below another waits
+            (((1, 1),), "edf", [(6, 3, 2, 1)], False), (((1, 1),), "edf", [(6, 3, 2, 2)], True),
+            (((1, 1),), "dm", [(4, 2, 1), (6, 3, 2)], False), (((1, 1),), "listed", [(6, 3, 2), (4, 2, 1)], True),
+        ):
+            self.assertEqual(halts.can_be_late(core, 0, sched, responses.tasks_of(*tasks), False), is_late, (core, sched, tasks))
+
 
 def taken(period, budget, slots):
     """The most that a VCPU takes of the last slots before one of its periods ends."""
@@ -266,7 +292,7 @@ class Isolations(support.Case):
         return None
 
     def test_a_wrong_search_is_seen_on_a_small_core(self):
-        self.stand_in(isolations, exposed=lambda *_: [])
+        self.stand_in(isolations, exposed=lambda *_: [], sums=lambda *_: None)
         for name, room in {
             "right": StandIn(),
             "without the part of a begun period": StandIn(lambda period, budget, slots: slots // period * budget),
@@ -284,6 +310,7 @@ class Isolations(support.Case):
     def test_some_small_cores_and_random_runs(self):
         looks = [(isolations.small, core) for core in list(isolations.small_cores(2))[::25]]
         looks += [(isolations.over_workloads, made) for made in isolations.random_systems(3, 8)]
+        looks += [(halts.small, made) for made in halts.small_guests(3, 8)] + [(halts.over_runs, made) for made in halts.hosts(3, 8)]
         found = [comparing.looked_at(program_of(program()), look, None, False, (0, made)) for look, made in looks]
         self.assertEqual([wrong for _, wrong in found if wrong], [])
         self.assertGreater(sum(met["periods of isolated VCPUs"] for met, _ in found), 20)

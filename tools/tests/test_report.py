@@ -34,10 +34,16 @@ response video-0 encode worst=77142 limit=80000 replay=77142
 isolated Domain-0-0 last=9000 of=10000
 exposed audio-0 by=ties last=4600 of=5000
 exposed video-0 by=block
+core cpu1 budgets=7458 shortest=5000
 """),
     "audit": (1, OVER),
     "tally": (1, f"""{OVER}vcpu Domain-0-0 begun=1 judged=1 short=0 over=0 least_ns=5940800 most_ns=5940800
 vcpu audio-0 begun=2 judged=0 short=0 over=2 least_ns=- most_ns=600700
+"""),
+    "steal": (1, """verdict=no
+stolen audio-0 from_ns=0 got_ns=4400001 of_ns=4400000
+vcpu Domain-0-0 begun=1 kept=1 denied=0 most_ns=5000000
+vcpu audio-0 begun=2 kept=1 denied=1 most_ns=4400001
 """),
     "version": "rtadmit 1.2.3\n",
 }
@@ -127,7 +133,10 @@ class Pages(Case):
         self.tells(
             page, "Yes, while no VCPU sleeps. No deadline is missed on any level", "80.58% in use", "rtadmit 1.2.3",
             "If VCPUs sleep: 2 of 3 exposed. Others that sleep and wake at the right moments can take from video-0 what was promised. "
-            "audio-0 : kept only where, of periods that end at once, the first in the file goes first.",
+            "audio-0 : kept only where, of periods that end at once, the first in the file goes first. "
+            "Each other guest keeps its deadlines that sleeps only while it has nothing to do. "
+            "On cpu1 the budgets come to 7458, more than the shortest period of 5000.",
+            "Guests that slept: no. audio-0 had so much time stolen in some period that", "Stolen is the time in which a guest did not",
             "What runs in Domain-0-0 is not known (stand-in).", "Stand-in: nothing is known of its tasks.",
             "The recording: no. audio-0 was over: the period that begins at 0 ns got 600700 ns, more than its budget of 600000 ns. "
             "No period of audio-0 was judged.", "no line of a gate is known that tells the sum of the program",
@@ -136,7 +145,7 @@ class Pages(Case):
             (["Domain-0-0 (stand-in)", "cpu1", "10000", "4000 given", "40.00%", "–", "–", "isolated (9000 of 10000)"], 0),
             (["audio-0", "cpu1", "5000", "600 computed", "12.00%", "frame 1800 → 2400", "–", "exposed by ties (4600 of 5000)"], 0),
             (["video-0", "cpu1", "10000", "2858 computed", "28.58%", "show 6000 → 6001", "encode 77142 of 80000", "exposed"], 0),
-            (["audio-0", "2", "0", "0", "2", "-", "600700"], 1),
+            (["audio-0", "2", "0", "0", "2", "-", "600700", "1", "4400001"], 1),
         ):
             self.assertEqual(self.row(page, row[0].split()[0], table), row)
         self.assertEqual((page.count("<svg"), "600700/600000 over" in page), (3, True))
@@ -149,11 +158,11 @@ class Pages(Case):
         self.assertLessEqual(set(re.findall(r"url\(#(.*?)\)", page)), set(names))
 
     def test_what_the_program_does_not_have(self):
-        lacking = ("responses", "slack", "isolate", "tally")
+        lacking = ("responses", "slack", "isolate", "tally", "steal")
         answers = {key: told for key, told in XEN.items() if key.split()[0] not in (*lacking, "version")}
         self.tells(self.page(answers, *XEN_FILES), *(f"not asked: this program has no {command} " for command in lacking),
                    "a program without `version`", "If VCPUs sleep: no answer. Nothing is claimed, since isolate did not", "rtadmit admit",
-                   lacks=["Slack:", "rtadmit slack"])
+                   lacks=["Slack:", "rtadmit slack", "Guests that slept", "Stolen is"])
 
     def test_headlines(self):
         """Of answers to `isolate` and to `audit`, what the page says first."""
@@ -162,6 +171,8 @@ class Pages(Case):
         for said, changes in (
             ("If VCPUs sleep: isolated. Each VCPU keeps its budget, whatever the others do",
              {"isolate": "verdict=yes\nisolated Domain-0-0 last=9000 of=10000\n"}),
+            ("Guests that slept: yes. In no period was so much time stolen that less than the budget was left. Each guest without parts of its own",
+             {"steal": "verdict=yes\nperiods=1\nvcpu A begun=1 kept=1 denied=0 most_ns=0\n"}),
             ("isolate is refused: fault=NotRtds core=c file=1 (st", {"isolate": (3, "fault=NotRtds core=c file=1\n")}),
             ("The recording: no verdict. No period is short or over; 0 were judged", {"audit": yes.replace("2", "0")}),
             ("2 were judged, of all guests together. Of whom is not told, since tally did not answer.", {"audit": yes, "tally": (2, "")}),

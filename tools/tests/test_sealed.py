@@ -98,7 +98,8 @@ class Evidence(Case):
             "tools/second-checker system.toml certificate.json", "rtadmit responses system.toml", "rtadmit slack system.toml leaf",
             "rtadmit audit system.toml trace.csv", "rtadmit tally system.toml trace.csv")
         heads = [entry.split("\n")[0] for entry in told]
-        self.assertEqual(heads, [*(f"$ {words}" for words in asked), "not asked: this program has no `isolate`"])
+        lacking = [f"not asked: this program has no `{command}`" for command in ("isolate", "steal")]
+        self.assertEqual(heads, [*(f"$ {words}" for words in asked), *lacking])
         self.assertEqual(told[6], f"$ rtadmit audit system.toml trace.csv\n{SHORT}status 1")
 
     def test_the_same_twice(self):

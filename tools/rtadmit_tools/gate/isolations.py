@@ -7,7 +7,8 @@ one has the core. No formula and no worst case stands here. What must hold is th
 - isolated by T: no period of it is short in whose last T slots it does not block, however ties are broken;
 - by ties: the same where of periods that end at once the first in the file goes first; and with other ties some period is short in which
   it never blocks;
-- by block: some such period is short in the order of the file.
+- by block: some such period is short in the order of the file;
+- of each core the sum of its budgets and its shortest period are told, and all of it is isolated exactly where that is no less.
 
 Random runs (100): a system of one to three cores with one to five VCPUs each, some with extra time and some with a part on them, and four
 workloads over it, in which VCPUs start, block and wake at moments that look random, many of them together. In the trace that `rtds` writes
@@ -98,7 +99,16 @@ def kept_of(room, cores, extra=(), inner=()):
     is_yes = all(told.how == "isolated" for told in kept.values())
     need(list(kept) == list(vcpus) and not wrong and answer.is_yes == is_yes,
          f"`isolate` does not tell of each VCPU with its period, or its verdict is not that of its lines:\n{answer.text}")
+    sums(answer, cores, [all(kept[name].how == "isolated" for name in vcpus if vcpus[name][0] == core) for core in range(len(cores))])
     return [(*vcpus[name], name, told) for name, told in kept.items()]
+
+
+def sums(answer, cores, whole):
+    """Each core has a line of its budgets and its shortest period, and these decide whether all of it is isolated."""
+    told = [(line["name"], line["budgets"], line["shortest"]) for line in answer.told("core")]
+    wanted = [(f"c{number}", sum(budget for _, budget in on), min(period for period, _ in on)) for number, on in enumerate(cores)]
+    need(told == wanted and whole == [budgets <= shortest for _, budgets, shortest in wanted],
+         f"`isolate` does not tell the budgets and the shortest period of each core, or they do not decide:\n{answer.text}")
 
 
 def exposed(room, kept, cores):

@@ -31,6 +31,7 @@ place cores.toml guests.csv
 isolate shared.toml
 slack leaf.toml leaf
 tally shared.toml shared.csv
+steal shared.toml shared.csv
 """
 
 # each way to spoil file k: where it stands then, the status, and the text (None: any)

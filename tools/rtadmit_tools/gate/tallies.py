@@ -1,4 +1,4 @@
-"""Counts the periods of recorded traces by a few lines of its own, and looks at whether `tally` and `audit` tell the same.
+"""Counts the periods of recorded traces by a few lines of its own, and looks at whether `tally`, `audit` and `steal` tell the same.
 
 The traces are that of examples/linux, under each of its system files, and traces that look random, the same on each run, with starts,
 blocks, wakes and extra time, in nanoseconds. Each is judged from its list of moments: for each VCPU the stretches in which it has its
@@ -6,9 +6,11 @@ core and in which it is blocked, and then each period by itself. What must hold 
 
 - the lines of `tally` tell what is counted here;
 - its status and the lines before them are those of `audit`, which is yes exactly where no period is short or over here, and then
-  tells the number of periods that are judged.
+  tells the number of periods that are judged;
+- what `steal` tells is counted here: a period is denied where the VCPU was neither blocked nor on its core for longer than its period
+  less its budget.
 
-Ends with 1 where something does not hold, and where few traces were a yes, or few a no."""
+Ends with 1 where something does not hold, and where few traces were a yes, or few a no, of `audit` or of `steal`."""
 import csv
 import tomllib
 
@@ -66,13 +68,38 @@ def line(part, rows):
     return f"vcpu {part['name']} {told} least_ns={min(judged, default='-')} most_ns={max(got, default='-')}", len(judged), short + over
 
 
+def stolen_line(part, rows):
+    """The same of `steal`: the line, how many periods are kept, and of the denied ones the begin, the name, what was stolen and of what."""
+    starts, runs, blocks = watched(rows, part["parent"], part["name"])
+    period, end, room = part["period"] * 1000, rows[-1][0], (part["period"] - part["budget"]) * 1000
+    spans = [(begin, min(begin + period, end)) for begin in (range(starts[0], end, period) if starts else ())]
+    stolen = [to - since - within(runs + blocks, since, to) for since, to in spans]
+    kept = sum(time <= room and to - since == period for time, (since, to) in zip(stolen, spans))
+    denied = [(since, part["name"], time, room) for time, (since, _) in zip(stolen, spans) if time > room]
+    told = f"begun={len(stolen)} kept={kept} denied={len(denied)} most_ns={max(stolen, default='-')}"
+    return f"vcpu {part['name']} {told}", kept, denied
+
+
+def each(line, system, trace):
+    """What is counted of each VCPU."""
+    rows, described = rows_of(trace, 1000), tomllib.loads(system)
+    cores = {core["name"] for core in described["core"]}
+    return [line(part, rows) for part in described["part"] if part["parent"] in cores]
+
+
 def counts(system, trace):
     """The lines of the VCPUs, how many periods are judged, and how many are broken."""
-    rows = rows_of(trace, 1000)
-    described = tomllib.loads(system)
-    cores = {core["name"] for core in described["core"]}
-    lines = [line(part, rows) for part in described["part"] if part["parent"] in cores]
+    lines = each(line, system, trace)
     return [told for told, _, _ in lines], sum(judged for _, judged, _ in lines), sum(broken for _, _, broken in lines)
+
+
+def stolen(system, trace):
+    """What `steal` is to answer."""
+    lines = each(stolen_line, system, trace)
+    first = min((one for _, _, denied in lines for one in denied), key=lambda one: one[0], default=None)
+    head = "verdict=no\nstolen {1} from_ns={0} got_ns={2} of_ns={3}".format(*first) if first else (
+        f"verdict=yes\nperiods={sum(kept for _, kept, _ in lines)}")
+    return Answer(int(first is not None), "\n".join([head, *(told for told, _, _ in lines)]) + "\n")
 
 
 def some_system(numbers):
@@ -131,8 +158,16 @@ def told_as_counted(room, made):
     return ["satisfied" if audit.status == 0 else "not satisfied"]
 
 
+def stolen_as_counted(room, made):
+    """Whether somebody was denied. What `steal` tells is what is counted here."""
+    answer, plain = room.run("steal", *(room.write(name, text) for name, text in zip(("system.toml", "trace.csv"), made))), stolen(*made)
+    need(answer == plain, f"steal: {answer}\ncounted: {plain}")
+    return ["denied" if answer.status else "not denied"]
+
+
 def run(given):
     linux = TOP / "examples/linux"
     recorded = [((linux / f"{name}.toml").read_text(), (linux / "trace.csv").read_text()) for name in ("reserved", "overrun", "tick")]
-    of_linux = compare(given, "the trace of examples/linux", told_as_counted, recorded)
-    return int(not (compare(given, "traces", told_as_counted, made(50, TRACES), {"satisfied": 20, "not satisfied": 20}) and of_linux))
+    looks = (told_as_counted, {"satisfied": 20, "not satisfied": 20}), (stolen_as_counted, {"denied": 20, "not denied": 20})
+    hold = [compare(given, "the trace of examples/linux", look, recorded) for look, _ in looks]
+    return int(not all([*hold, *(compare(given, "traces", look, made(50, TRACES), least) for look, least in looks)]))

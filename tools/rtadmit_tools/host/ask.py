@@ -13,8 +13,8 @@ What is no such text has a key of its own: `events` of `rtds`, `system` of `plac
     ::error file=FILE,line=LINE::COMMAND: the program's line, and of a fault what tools/host why finds
 
 The file and the line are those in which the fault is; of a row of a script that is not taken, of a guest that has no core and of a
-period that is short or over it is the second file, with the row, or the first row from that moment on; else it is the system file, with the
-line of the name. What is not found is left out."""
+period that is short, over or denied it is the second file, with the row, or the first row from that moment on; else it is the system
+file, with the line of the name. What is not found is left out."""
 import csv
 import io
 import itertools
@@ -32,10 +32,11 @@ from ..system_file import line_of
 
 STATUS = ("Yes", "No", "Usage", "BadFile", "Wide", "Absent", "ReadFault", "TooLong", "WriteFault", "NoMemory")
 SECOND = {
-    "check": "certificate", "simulate": "releases", "rtds": "workload", "audit": "trace", "tally": "trace", "session": "script",
-    "place": "guests",
+    "check": "certificate", "simulate": "releases", "rtds": "workload", "audit": "trace", "tally": "trace", "steal": "trace",
+    "session": "script", "place": "guests",
 }
-NOT_YES = {"overfull", "wide", "flaw", "short", "over", "exposed", "first", "nothing", "unplaced", "refused", "fault", "absent", "toolong"}
+NOT_YES = {"overfull", "wide", "flaw", "short", "over", "stolen", "exposed", "first", "nothing", "unplaced", "refused", "fault", "absent",
+           "toolong"}
 
 
 def objects(lines):
@@ -91,7 +92,7 @@ def place_of(line, command, files, answer):
     if "row" in line:
         numbers = itertools.count()
         return second, line_of_row(second, lambda row: next(numbers) == line["row"]), None
-    if kind in ("short", "over"):
+    if kind in ("short", "over", "stolen"):
         with open(second, encoding="utf-8-sig") as file:
             unit = 1 if file.readline().startswith("at_ns") else 1000
         return second, line_of_row(second, lambda row: row[0].isdecimal() and int(row[0]) * unit >= line["from_ns"]), None

@@ -57,6 +57,8 @@ def kept_of(answer, path):
     kept = {}
     for line in answer.lines[1:]:
         told = line_object(line) or {}
+        if told.get("kind") == "core":
+            continue
         how = told.get("by") or told.get("kind")
         if set(told) != {"kind", "name", *KEYS.get(how, ["?"])}:
             raise Refused(path, None, f"`isolate` tells what this tool does not know: {line}")

@@ -1,11 +1,12 @@
 """One page that shows what the program says of a host, and of a recording of it. The page needs nothing else.
 
 FILE is a system file. The page has the verdict in a sentence, which is of VCPUs that do not sleep, and beside it what `isolate` says of
-those that do; the cores, with the shares of what stands on them; a table of the guests, with how much their work may grow (`slack`), their
-worst response (`responses`) and whether they keep their budget when others block; and of each guest with tasks the picture of tools/host
-curves. On a no it has what tools/host why says, and the budgets that the program computes for each guest by itself. With TRACE it has the
-verdict of `audit`, of which guests that says nothing, what `tally` counted, and the picture of tools/host timeline, around the broken
-period where there is one.
+those that do, and of the deadlines of guests that sleep only while they have nothing to do; the cores, with the shares of what stands on
+them; a table of the guests, with how much their work may grow (`slack`), their worst response (`responses`) and whether they keep their
+budget when others block; and of each guest with tasks the picture of tools/host curves. On a no it has what tools/host why says, and the
+budgets that the program computes for each guest by itself. With TRACE it has the verdict of `audit`, of which guests that says nothing,
+what `tally` counted, what `steal` says of guests that slept, and the picture of tools/host timeline, around the broken period where there
+is one.
 
 Every verdict, budget and number of these columns is the program's; a command that it does not have is told as not asked. The foot has the
 words that were asked, the sums of the program and the files, and the commit and the logic that the gate's line of the program's sum tells,
@@ -29,7 +30,7 @@ FROM_LINUX = re.compile(r"\s*(?:#.*\n\s*)*#.*\bfrom-linux\b")
 YES = """No deadline is missed on any level, in the guests or between them, whenever the periods of each guest begin, with the
 budgets below."""
 ISOLATED = """Each VCPU keeps its budget, whatever the others do, in every period in whose last slots it does not sleep itself; how many
-these are is told below."""
+these are is told below. And each guest keeps its deadlines that sleeps only while it has nothing to do."""
 ABOUT = {
     "slack": "Slack: the task that may grow the least, its work, and the most with which all is still admitted.",
     "response": "Response: the task that comes closest to its limit, its worst response, and that limit.",
@@ -40,6 +41,8 @@ what it was promised; by ties: only where, of periods that end at once, theirs g
 STAND_IN = "Stand-in: nothing is known of its tasks. One slot a second stands for them, and its budget is as it is given."
 TALLIED = """Periods that begin in the recording, those that were judged, and the least and the most that a period got: the least of
 those that were judged, the most of all."""
+STOLEN = """ Stolen is the time in which a guest did not sleep and did not have its core; a period is denied where more of it was stolen
+than its length less the budget."""
 LINUX = """<b>A host of Linux.</b> Its kernel lets a period begin anew at a wake-up, and the audit counts each guest's periods from its
 start. So behind a sleep `over` or `short` may be told of a kernel that kept its own rule (docs/use/audit.md)."""
 RTDS_ONLY = "That is of Xen's RTDS; this is a host of Linux, whose kernel goes by another rule (docs/use/guide.md)."
@@ -73,13 +76,16 @@ class Asked:
         self.leaves = [part.name for part in self.system.parts() if part.tasks and part.name not in self.stand_ins]
         self.responses = [line for line in self.lines("response", "responses", path) if line["name"] not in self.stand_ins]
         self.slacks = [line for name in counted(self.leaves, "slack") for line in self.lines("slack", "slack", path, name)]
-        self.isolated = {line["name"]: line for line in self.lines("isolated exposed", "isolate", path)}
-        self.audit, self.broken, self.tally = None, None, []
+        told = self.lines("isolated exposed core", "isolate", path)
+        self.isolated = {line["name"]: line for line in told if line["kind"] != "core"}
+        self.full = [line for line in told if line["kind"] == "core" and line["budgets"] > line["shortest"]]
+        self.audit, self.broken, self.tally, self.stolen = None, None, [], []
         if trace:
             self.audit = self.program.ask("audit", path, trace)
             self.answers.append((f"audit {path} {trace}", self.audit))
             self.broken = next(iter(self.audit.told("short", "over")), None)
             self.tally = self.lines("vcpu", "tally", path, trace, always=True)
+            self.stolen = self.lines("vcpu", "steal", path, trace, always=True)
 
     def take(self, name):
         """Takes the budgets of a guest and of all that stands on it: as admitted, or as the program answers for it by itself."""
@@ -152,9 +158,13 @@ class Page:
         block, ties = ([name for name, line in asked.isolated.items() if line.get("by") == how] for how in ("block", "ties"))
         taken = [f"Others that sleep and wake at the right moments can take from {names_of(block)} what was promised."] if block else []
         taken += [f"{names_of(ties)}: kept only where, of periods that end at once, the first in the file goes first."] if ties else []
+        if len(block + ties) < len(asked.isolated):
+            taken.append("Each other guest keeps its deadlines that sleeps only while it has nothing to do.")
+        taken += ["On {} the budgets come to {budgets}, more than the shortest period of {shortest}.".format(name_of(line["name"]), **line)
+                  for line in asked.full]
         if not asked.isolated:
             tone, lead, told = "wide", "If VCPUs sleep: no answer.", marked("Nothing is claimed, since `isolate` did not answer.")
-        elif taken:
+        elif block or ties:
             tone, lead, told = "no", f"If VCPUs sleep: {len(block + ties)} of {len(asked.isolated)} exposed.", " ".join(taken)
         else:
             tone, lead, told = "yes", "If VCPUs sleep: isolated.", ISOLATED
@@ -178,6 +188,17 @@ class Page:
         told += ["So it says nothing of the scheduler."] * (not count)
         told += ["Of whom is not told, since `tally` did not answer."] * (not tally)
         return banner("yes" if lead == "yes" else "wide", f"The recording: {lead}.", marked(" ".join(told)))
+
+    def denied(self):
+        """What `steal` says, in a sentence."""
+        if not self.asked.stolen:
+            return ""
+        if denied := [line["name"] for line in self.asked.stolen if line["denied"]]:
+            cause = "had so much time stolen in some period that less than the budget was left"
+            return banner("no", "Guests that slept: no.", f"{names_of(denied)} {cause}.")
+        kept = " Each guest without parts of its own that slept only while it had nothing to do kept its deadlines up to the end."
+        kept *= self.asked.admit.is_yes
+        return banner("yes", "Guests that slept: yes.", f"In no period was so much time stolen that less than the budget was left.{kept}")
 
     # The cores
 
@@ -258,11 +279,13 @@ class Page:
         told, broken = [], lambda count: Cell(str(count), "bad" if count else "")
         if self.asked.tally:
             columns = {"guest": "name", "begun": "begun", "judged": "judged", "short": "short", "over": "over", "least (ns)": "least_ns",
-                       "most (ns)": "most_ns"}
-            shown = {"name": name_of, "short": broken, "over": broken}
+                       "most (ns)": "most_ns", **({"denied": "denied", "most stolen (ns)": "stolen_ns"} if self.asked.stolen else {})}
+            stolen = {line["name"]: {"denied": line["denied"], "stolen_ns": line["most_ns"]} for line in self.asked.stolen}
+            shown = {"name": name_of, "short": broken, "over": broken, "denied": broken}
             plain = lambda value: "-" if value is None else str(value)
-            rows = [[shown.get(key, plain)(line[key]) for key in columns.values()] for line in self.asked.tally]
-            told = [table_of(list(columns), rows), soft(TALLIED)]
+            lines = [line | stolen.get(line["name"], {}) for line in self.asked.tally]
+            rows = [[shown.get(key, plain)(line.get(key)) for key in columns.values()] for line in lines]
+            told = [table_of(list(columns), rows), soft(TALLIED + STOLEN * bool(self.asked.stolen))]
         return section("The recording", f"<p>{marked(LINUX)}</p>" if self.asked.is_linux else "", *told, self.timeline())
 
     def timeline(self):
@@ -324,7 +347,7 @@ class Page:
     def text(self):
         lead, _, cause = self.origin.mark.partition(": ")
         mark = banner("no", f"{lead}:", escape(cause)) if cause and self.origin.is_asked_for else ""
-        parts = [mark, self.verdict(), self.sleeping(), self.audited() if self.asked.trace else ""]
+        parts = [mark, self.verdict(), self.sleeping(), *([self.audited(), self.denied()] if self.asked.trace else [])]
         parts += [self.why() if self.asked.admit.status == 1 else "", section("Cores", *map(self.core, self.system.cores())), self.guests()]
         parts += [self.recording() if self.asked.trace else "", self.curves(), self.foot()]
         return whole(f"rtadmit: {self.asked.path}", f"Does {self.asked.path} keep its deadlines?", parts)
