@@ -1,6 +1,6 @@
 mod Stolen
 pub mod Spared
-mod InTrace
+pub mod InTrace
 pub mod Kept
 pub mod Answered
 pub mod Traces

@@ -36,6 +36,7 @@ use Rattle.isolation.specs.Open.{OpenRun}
 use Rattle.isolation.specs.Short.{AllIsolated}
 use Rattle.isolation.specs.declared.budgets.CoreBudgets.{CoreBudgets}
 use Rattle.isolation.specs.Budgets.{AreCoreBudgets}
+use Rattle.isolated_guests.specs.Spared.{IsSparedInTraces}
 use Rattle.isolated_guests.specs.Guests.{PartKeeps, HostsKeep}
 use Rattle.isolated_guests.specs.Answered.{LineKeeps}
 use Rattle.compose_tree.specs.Keeping.{Keeping}
@@ -58,7 +59,7 @@ use Rattle.rtds_sim.specs.Fault.{AllRtds, IsFirstOther}
 use Rattle.system_file.specs.SystemFile.{system_of}
 use Rattle.command_frame.specs.OverFiles.{OnRead}
 use Rattle.trace_commands.specs.Audit.{tracing, finding_status, the_audit, AuditMeans, Audits, IsAudited, OnEvents, TellsSatisfied}
-use Rattle.trace_commands.specs.Isolate.{isolating, isolation_status, the_isolate, IsToldIsolation, Isolates, IsolateMeans, LineMeans, TellsIsolations}
+use Rattle.trace_commands.specs.Isolate.{isolating, isolation_status, the_isolate, IsToldIsolation, Isolates, IsolateMeans, LineMeans, LineSpares, HasIdleHosts, TellsIsolations}
 use Rattle.trace_commands.specs.Simulate.{kept_status, releasing, the_simulate, IsSimulated, SimulateMeans, Simulates}
 use Rattle.trace_commands.specs.Tally.{the_tally, IsToldTally, Tallies, TallyMeans, TellsTally}
 use Rattle.trace_commands.proofs.Laws.Rtds.{waking_decided}
@@ -152,11 +153,13 @@ AreLinesOf sys text budgets all =
     (rows : List PartIsolation) × (cores : List CoreBudgets) × Admitted sys budgets × Assigned sys budgets
     × Keeping sys budgets × AllRtds sys (length sys.cores) × AreIsolations sys budgets rows
     × All (λ (row : PartIsolation). LineMeans sys budgets (own_core sys row.part) row.part row.isolation
-    × LineKeeps sys budgets (own_core sys row.part) row.part row.isolation) rows
+    × LineKeeps sys budgets (own_core sys row.part) row.part row.isolation
+    × LineSpares sys budgets row.part row.isolation) rows
     × AreCoreBudgets sys budgets cores
     × All (λ (row : CoreBudgets). (row.budgets ≤ row.shortest → AllIsolated sys budgets row.core)
     × (AllIsolated sys budgets row.core → row.budgets ≤ row.shortest)) cores
-    × (are_isolated rows ≡ all) × (all ≡ true → HostsKeep sys budgets) × (text ≡ isolation_text sys rows cores)
+    × (are_isolated rows ≡ all) × (all ≡ true → HostsKeep sys budgets) × HasIdleHosts sys budgets
+    × (text ≡ isolation_text sys rows cores)
 
 what_lines_say : (sys : SystemView) (text : List ℕ) (all : Bool) → TellsIsolations sys text all
     → (budgets : List ℕ) × AreLinesOf sys text budgets all
@@ -175,6 +178,7 @@ what_lines_say sys text all told = (
     told.where_short,
     told.all_isolated,
     told.on_yes,
+    told.idle_hosts,
     told.told,
   ),
 )
@@ -190,6 +194,12 @@ a_line_keeps_deadlines : (sys : SystemView) (budgets : List ℕ) (c v last : ℕ
     → PartKeeps OpenRun sys budgets c v × PartKeeps CoreRun sys budgets c v)
     × (LineKeeps sys budgets c v (ByTies last) → PartKeeps CoreRun sys budgets c v)
 a_line_keeps_deadlines sys budgets c v last = (λ h. h, λ h. h)
+
+-- and spares VCPUs in the traces of `rtds`
+a_line_spares : (sys : SystemView) (budgets : List ℕ) (v last : ℕ)
+    → (LineSpares sys budgets v (Isolated last) → IsSparedInTraces sys budgets v)
+    × (LineSpares sys budgets v (ByTies last) → IsSparedInTraces sys budgets v)
+a_line_spares sys budgets v last = (λ h. h, λ h. h)
 
 a_yes_isolates_all : (sys : SystemView) (text : List ℕ) → IsolateMeans sys Yes text → TellsIsolations sys text true
 a_yes_isolates_all sys text told = told

@@ -1,5 +1,7 @@
 -- `isolate FILE`: what it answers, and what its yes and no mean to who lets guests block.
 use Rattle.std.specs.Prelude.{◌≡◌, ◌⊎◌, ℕ, ◌≤◌, Bool, true, false, if◌then◌else◌, List, length, All, ⊤}
+use Rattle.slot_model.specs.declared.job.Job.{Job}
+use Rattle.slot_model.specs.declared.task.TheConstants.{LIMIT}
 use Rattle.tree_model.specs.View.{SystemView}
 use Rattle.tree_model.specs.Admission.{Admitted, Assigned}
 use Rattle.compose_tree.specs.Keeping.{Keeping}
@@ -14,8 +16,10 @@ use Rattle.isolation.specs.Answers.{own_core, AreIsolations, are_isolated}
 use Rattle.isolation.specs.Short.{AllIsolated}
 use Rattle.isolation.specs.declared.budgets.CoreBudgets.{CoreBudgets}
 use Rattle.isolation.specs.Budgets.{AreCoreBudgets}
+use Rattle.isolated_guests.specs.Spared.{IsSparedInTraces}
 use Rattle.isolated_guests.specs.Guests.{HostsKeep}
 use Rattle.isolated_guests.specs.Answered.{LineKeeps}
+use Rattle.idle_hosts.specs.Hosts.{AreStarts, AreLegalOnCores, IdleHost}
 use Rattle.rt_report.specs.Fault.{not_rtds_text}
 use Rattle.rt_report.specs.Isolation.{isolation_text}
 use Rattle.command_frame.specs.declared.status.Status.{Status}
@@ -74,6 +78,21 @@ LineMeans sys budgets c v (ByTies last) =
 LineMeans sys budgets c v ByBlock =
     ServersFit sys budgets c × IsExposed sys budgets c v × IsExposedInTrace sys budgets c v
 
+-- A line that says isolated, in any order of ties or in that of the file, also means: in the trace
+-- that `rtds` writes of any workload, in no period of v more is stolen from it than the period has
+-- beyond its budget, as `steal` counts it.
+abbrev pub LineSpares : SystemView → List ℕ → ℕ → Isolation → Type 0
+LineSpares sys budgets v (Isolated last) = IsSparedInTraces sys budgets v
+LineSpares sys budgets v (ByTies last) = IsSparedInTraces sys budgets v
+LineSpares sys budgets v ByBlock = ⊤
+
+-- for all starts and legal releases, over as many slots as a workload may reach, there is a host
+-- whose leaves on cores halt exactly where they have nothing to do
+abbrev pub HasIdleHosts : SystemView → List ℕ → Type 0
+HasIdleHosts sys budgets =
+    (starts : List ℕ) (n : ℕ) (jobs : List (List Job)) → AreStarts sys starts → n ≤ LIMIT →
+    AreLegalOnCores sys budgets jobs → IdleHost sys budgets starts n jobs
+
 -- What the line of a core means: the sum of its budgets is no more than its shortest period exactly
 -- where each part on it is isolated, however ties are broken.
 abbrev pub IsShortWhereIsolated : SystemView → List ℕ → CoreBudgets → Type 0
@@ -87,6 +106,7 @@ IsShortWhereIsolated sys budgets row =
 -- halts stands beside what it means for its slots (`means`): where it is isolated, no job of it is
 -- lost in any run in which it halts only where none of its jobs is pending. Of a guest that halts
 -- while one is, nothing is said but of slots. On yes so it is of each part on a core (`on_yes`).
+-- Hosts whose guests halt so exist for each release (`idle_hosts`).
 pub record TellsIsolations (sys : SystemView) (text : List ℕ) (all : Bool) : Type 0 where
   pub budgets : List ℕ
   pub admitted : Admitted sys budgets
@@ -97,12 +117,14 @@ pub record TellsIsolations (sys : SystemView) (text : List ℕ) (all : Bool) : T
   pub isolations : AreIsolations sys budgets rows
   pub means : All (λ (row : PartIsolation).
       LineMeans sys budgets (own_core sys row.part) row.part row.isolation
-      × LineKeeps sys budgets (own_core sys row.part) row.part row.isolation) rows
+      × LineKeeps sys budgets (own_core sys row.part) row.part row.isolation
+      × LineSpares sys budgets row.part row.isolation) rows
   pub cores : List CoreBudgets
   pub sums : AreCoreBudgets sys budgets cores
   pub where_short : All (IsShortWhereIsolated sys budgets) cores
   pub all_isolated : are_isolated rows ≡ all
   pub on_yes : all ≡ true → HostsKeep sys budgets
+  pub idle_hosts : HasIdleHosts sys budgets
   pub told : text ≡ isolation_text sys rows cores
 
 -- what an answer to a system means: yes, that each part on a core is isolated; no, that it is not

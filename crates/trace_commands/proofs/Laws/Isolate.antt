@@ -18,13 +18,19 @@ use Rattle.isolation.specs.declared.vcpus.PartIsolation.{PartIsolation}
 use Rattle.isolation.specs.Answer.{IsIsolation, Means, MeansInTrace}
 use Rattle.isolation.specs.Answers.{own_core, are_isolated}
 use Rattle.isolation.proofs.Exposed.{means, means_in_trace}
+use Rattle.isolation.specs.Demand.{IsIsolatedBy}
+use Rattle.rtds_model.specs.Demand.{later}
+use Rattle.isolation.proofs.Least.{in_file_order}
 use Rattle.isolation.proofs.Listed.{each_vcpu}
 use Rattle.isolation.proofs.OneIsolation.{one_list_of_isolations}
 use Rattle.isolation.specs.declared.budgets.CoreBudgets.{CoreBudgets}
 use Rattle.isolation.specs.Budgets.{IsCoreBudgets}
 use Rattle.isolation.proofs.Sums.{fits_shortest, one_list_of_budgets}
 use Rattle.isolation.proofs.Fits.{isolated_where_short}
+use Rattle.isolated_guests.specs.Spared.{IsSparedInTraces}
+use Rattle.isolated_guests.proofs.InTrace.{isolated_are_spared_in_traces}
 use Rattle.isolated_guests.proofs.Answered.{lines_keep, yes_keeps}
+use Rattle.idle_hosts.proofs.Hosts.{idle_hosts_exist}
 use Rattle.compose_tree.proofs.Sound.{admitted_keeping}
 use Rattle.rt_report.specs.Isolation.{isolation_text}
 use Rattle.command_frame.specs.declared.status.Status.{Status}
@@ -32,7 +38,7 @@ use Rattle.command_frame.specs.declared.status.Status.TheVariants.{Yes, No, Wide
 use Rattle.command_frame.specs.Answer.{IsOne}
 use Rattle.command_frame.specs.Attempt.{OnAttempt}
 use Rattle.command_frame.specs.Budgets.{composing}
-use Rattle.trace_commands.specs.Isolate.{the_isolate, isolating, IsolatesAll, IsToldIsolation, Isolates, LineMeans, IsShortWhereIsolated, TellsIsolations, IsolateMeans}
+use Rattle.trace_commands.specs.Isolate.{the_isolate, isolating, IsolatesAll, IsToldIsolation, Isolates, LineMeans, LineSpares, IsShortWhereIsolated, TellsIsolations, IsolateMeans}
 use Rattle.trace_commands.specs.Rtds.{IsVerdictOfRun}
 use Rattle.command_frame.specs.Steps.{IsJudged}
 use Rattle.command_frame.proofs.Attempt.{IsDecided, one_attempt, statuses_attempt}
@@ -89,18 +95,39 @@ line_means sys budgets c v fit (Isolated last) run trace = (trace, run.0, run.1)
 line_means sys budgets c v fit (ByTies last) run trace = (trace, run)
 line_means sys budgets c v fit ByBlock run trace = (fit, run, trace)
 
+part_below : (sys : SystemView) (v : ℕ) → is_vcpu sys v ≡ true → v < length sys.parts
+part_below sys v vcpu =
+    ltb-true v (length sys.parts) (and_parts (nat_lt v (length sys.parts)) (is_core (part_at sys v).parent) vcpu).0
+
 part_means : (sys : SystemView) → IsSystem sys → (budgets : List ℕ) → Admitted sys budgets
     → AllRtds sys (length sys.cores) → (v : ℕ) → is_vcpu sys v ≡ true → (answer : Isolation)
     → IsIsolation sys budgets (own_core sys v) v answer → LineMeans sys budgets (own_core sys v) v answer
 part_means sys is budgets admitted all v vcpu answer h =
     let plan : IsPlan sys budgets = assigned_is_plan sys is budgets admitted.assigned in
     let c : ℕ = own_core sys v in
-    let l : v < length sys.parts
-    = ltb-true v (length sys.parts) (and_parts (nat_lt v (length sys.parts)) (is_core (part_at sys v).parent) vcpu).0 in
+    let l : v < length sys.parts = part_below sys v vcpu in
     let on : OnCore sys v = vcpu_core sys is v vcpu in
     let fit : ServersFit sys budgets c = servers_fit sys budgets all admitted c on.is_core in
     line_means sys budgets c v fit answer (means sys is budgets plan c v l on.child answer h)
     (means_in_trace sys is budgets plan c v l on.child fit answer h)
+
+-- and of the time that is stolen in traces
+line_spares : (sys : SystemView) (budgets : List ℕ) → IsPlan sys budgets → (c v : ℕ) (answer : Isolation)
+    → IsIsolation sys budgets c v answer
+    → ((t : ℕ) → IsIsolatedBy later sys budgets c v t → IsSparedInTraces sys budgets v)
+    → LineSpares sys budgets v answer
+line_spares sys budgets plan c v (Isolated last) h spares =
+    spares last (in_file_order sys budgets plan c v last h.isolated)
+line_spares sys budgets plan c v (ByTies last) h spares = spares last h.1.isolated
+line_spares sys budgets plan c v ByBlock h spares = tt
+
+part_spares : (sys : SystemView) → IsSystem sys → (budgets : List ℕ) → IsPlan sys budgets → (v : ℕ)
+    → is_vcpu sys v ≡ true → (answer : Isolation) → IsIsolation sys budgets (own_core sys v) v answer
+    → LineSpares sys budgets v answer
+part_spares sys is budgets plan v vcpu answer h =
+    let on : OnCore sys v = vcpu_core sys is v vcpu in
+    line_spares sys budgets plan (own_core sys v) v answer h (λ t by. isolated_are_spared_in_traces sys budgets
+    (own_core sys v) v t is plan (part_below sys v vcpu) on.child by)
 
 -- what the line of a core means
 core_means : (sys : SystemView) (budgets : List ℕ) → IsPlan sys budgets → (row : CoreBudgets)
@@ -128,12 +155,15 @@ tells sys is budgets admitted rows cores h text told b e =
         part_means sys is budgets admitted h.all _ (each_vcpu sys budgets rows h.isolations k d l) _
             (h.isolations.each k d l),
         lines_keep sys budgets _ _ _ is admitted (h.isolations.each k d l),
+        part_spares sys is budgets plan _ (each_vcpu sys budgets rows h.isolations k d l) _
+            (h.isolations.each k d l),
       );
       cores = cores;
       sums = h.sums;
       where_short = λ k d l. core_means sys budgets plan _ (h.sums.each k d l);
       all_isolated = e;
       on_yes = λ yes. yes_keeps sys budgets rows is admitted h.isolations (e ∙ yes);
+      idle_hosts = λ starts n jobs at few legal. idle_hosts_exist sys budgets starts n jobs is at few legal;
       told = told;
     }
 
