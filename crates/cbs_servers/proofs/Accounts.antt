@@ -93,7 +93,7 @@ module _ (s : Servers) (servers : AreServers s) (shares : SharesFit s) (n : ℕ)
   pub in_time : (x : ℕ) → x ≤ n → IsUp s v x → x + (account s run v x).left ≤ (account s run v x).due
   in_time x l up = elim (cases_eq (account s run v x).left 0) [
     | inl z ↦ omega (arith, comes s servers run v is x z)
-    | inr ne ↦ late_nowhere s servers shares n run r v x l is (omega arith) up
+    | inr ne ↦ late_nowhere s servers shares n run r v is x l (omega arith) up
   ]
 
   -- over a window in which it is awake
@@ -124,9 +124,8 @@ module _ (s : Servers) (servers : AreServers s) (shares : SharesFit s) (n : ℕ)
         (account s run v a)) (sym (account-suc s run v y))
         (on_step (s.budget v) (s.period v) y (got a run v y) (holds (held run y) v) (wakes s v (suc y))
         (account s run v a) (account s run v y) _ (and_right (s.awake v (suc y)) (not (s.awake v y)) (ap not u))
-        (λ e. (ran s servers shares n run r y (omega arith)
-        (on_time s servers shares n run r y (omega arith)) v is e).0)
-        (on_time s servers shares n run r (suc y) m v (suc y) is (omega arith))
+        (λ e. (ran s servers shares n run r v is y (omega arith) e).0)
+        (on_time s servers shares n run r v is y (omega arith))
         (turn (s.budget v) (s.period v) (suc y) (wakes s v (suc y))
         (after_slot (holds (held run y) v) (account s run v y)))
         (goes_on a y l' (omega arith) (λ z lz mz. awake z lz (omega arith)))))

@@ -81,7 +81,7 @@ never_short s n run v servers shares r is x l u at = elim
           (turn (s.budget v) (s.period v) (suc x) (wakes s v (suc x)) a) in
           absurd (omega (
             arith,
-            late_nowhere s servers shares n run r v (suc x) l is (omega (arith, ap (λ (c : Account). c.left) e))
+            late_nowhere s servers shares n run r v is (suc x) l (omega (arith, ap (λ (c : Account). c.left) e))
                 (before x refl u),
             ap (λ (c : Account). c.left) e,
             ap (λ (c : Account). c.due) e,

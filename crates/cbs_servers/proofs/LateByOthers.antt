@@ -1,7 +1,7 @@
 -- A server is late by no more than what the others run past their budgets.
-use Rattle.std.proofs.Common.{◌≡◌, ◌⊎◌, ℕ, zero, suc, ◌+◌, ◌-◌, ◌*◌, ◌<◌, ◌≤◌, nat_lt, leb, Bool, true, false, cond, ◌&&◌, List, get_or, Option, Some, None, arith, refl, sym, ◌∙◌, ap, subst, inl, inr, le-leb, leb-true, lt-ltb, mul-le-mul_left, mul-le-mul_right}
+use Rattle.std.proofs.Common.{◌≡◌, ◌⊎◌, ℕ, zero, suc, ◌+◌, ◌-◌, ◌*◌, ◌<◌, ◌≤◌, nat_lt, leb, Bool, true, false, not, cond, ◌&&◌, List, get_or, Option, Some, None, arith, refl, sym, ◌∙◌, ap, subst, inl, inr, le-leb, leb-true, lt-ltb, mul-le-mul_left, mul-le-mul_right}
 use Rattle.std.proofs.Math.Nat.{le_of_mul-le-mul_right}
-use Rattle.std.proofs.lemmas.Bool.{cases_lt, cases_Bool, and_parts, and_from, both_ways, false≢true, cond-true, ltb-true}
+use Rattle.std.proofs.lemmas.Bool.{cases_lt, cases_Bool, and_parts, and_from, and_right, both_ways, false≢true, cond-true, ltb-true}
 use Rattle.slot_model.specs.Slots.{sum_below, count_below}
 use Rattle.slot_model.specs.Run.{held, holds}
 use Rattle.slot_model.proofs.Sums.{sum_below-lt, sum_below-add, sum_below-mul}
@@ -9,10 +9,10 @@ use Rattle.slot_model.proofs.Runs.{back_to, holds-is}
 use Rattle.slot_model.proofs.Served.{served_le}
 use Rattle.slot_model.proofs.Counts.{count_stretch}
 use Rattle.cbs_servers.specs.Cbs.{Servers, IsServer, wakes}
-use Rattle.cbs_servers.specs.Giving.{AreServers}
+use Rattle.cbs_servers.specs.Giving.{AreServers, SharesFit}
 use Rattle.cbs_servers.specs.Overrun.{Grant, no_grant, grant_at, grant_after, grant_of, grant, is_awake, has_left, may_run, OverrunRun, LateByOthers}
-use Rattle.cbs_servers.proofs.OverrunSteps.{Owes, untouched, within, past, Fair, Nearly, slot_owes, moves, moment_owes, fair_moves, nearly_ran}
-use Rattle.cbs_servers.proofs.Windows.{seen, got, got_none, got_next}
+use Rattle.cbs_servers.proofs.OverrunSteps.{Owes, untouched, within, past, Fair, Nearly, slot_owes, Moves, moves, moment_owes, fair_moves, nearly_ran}
+use Rattle.cbs_servers.proofs.Windows.{seen, got, got_none, got_next, IsUp, now, before}
 
 pub grant-zero : (s : Servers) (run : List (Option ℕ)) (v : ℕ)
     → grant s run v 0 ≡ grant_at (s.budget v) (s.period v) 0 (wakes s v 0) no_grant
@@ -134,16 +134,21 @@ module _ (s : Servers) (servers : AreServers s) (over : ℕ → ℕ) (n : ℕ) (
   abbrev OwesAt : ℕ → Bool → Grant → Type 0
   OwesAt have up g = Owes (s.budget v) (s.period v) t d (over v) have up g
 
-  next_owes : (y : ℕ) → y < n → t ≤ suc y → (have : ℕ)
+  -- from a slot of the window to the next, where it is awake there, or counts as awake since it was
+  -- before
+  next_owes : (y : ℕ) → y < n → t ≤ suc y → (have : ℕ) (next : Bool)
+      → (next && not (s.awake v y)) ≡ wakes s v (suc y)
       → OwesAt have (s.awake v y) (grant_after (holds (held run y) v) (grant s run v y))
-      → OwesAt have (s.awake v (suc y)) (grant s run v (suc y))
-  next_owes y ly l have h =
+      → OwesAt have next (grant s run v (suc y))
+  next_owes y ly l have next e h =
       let g : Grant = grant_after (holds (held run y) v) (grant s run v y) in
-      subst (OwesAt have (s.awake v (suc y))) (sym (grant-suc s run v y))
-      (moment_owes (s.budget v) (s.period v) t d (over v) have (suc y) (s.awake v y) (s.awake v (suc y)) g _ l
+      subst (OwesAt have next) (sym (grant-suc s run v y))
+      (moment_owes (s.budget v) (s.period v) t d (over v) have (suc y) (s.awake v y) next g _ l
       (before_moment s servers over n run w.is_run v is y ly)
+      (subst (λ (b : Bool). Moves (s.budget v) (s.period v) (suc y) b g
+      (grant_at (s.budget v) (s.period v) (suc y) (wakes s v (suc y)) g)) (sym e)
       (moves (s.budget v) (s.period v) (suc y) (wakes s v (suc y)) g (servers.some v is)
-      (some_period s servers over n run w.is_run v is)) h)
+      (some_period s servers over n run w.is_run v is))) h)
 
   may_run_by : (y : ℕ) → t ≤ y → y < x → holds (get_or run y None) v ≡ true
       → (s.awake v y ≡ true) × ((grant s run v y).due ≤ d)
@@ -200,14 +205,43 @@ module _ (s : Servers) (servers : AreServers s) (over : ℕ → ℕ) (n : ℕ) (
     | inl q ↦
         subst (λ (have : ℕ). OwesAt have (s.awake v (suc y)) (grant s run v (suc y)))
         (sym (got_none t run v (suc y) (omega arith)))
-        (next_owes y (omega (arith, w.in_run)) l 0 (before_owes y (omega arith) (omega (arith, w.in_run))))
+        (next_owes y (omega (arith, w.in_run)) l 0 (s.awake v (suc y)) refl
+        (before_owes y (omega arith) (omega (arith, w.in_run))))
     | inr q ↦
         subst (λ (have : ℕ). OwesAt have (s.awake v (suc y)) (grant s run v (suc y)))
         (sym (got_next t run v y q))
         (next_owes y (omega (arith, w.in_run)) l (got t run v y + cond (holds (held run y) v) 1 0)
+        (s.awake v (suc y)) refl
         (slot_owes (s.budget v) (s.period v) t d (over v) (got t run v y) (s.awake v y) (holds (held run y) v)
         (grant s run v y) (may_run_by y q (omega arith)) (owes_at y q (omega arith))))
   ]
+
+  -- one that was awake in the slot before counts as awake
+  owes_on : (y : ℕ) → t ≤ suc y → suc y ≤ x → s.awake v y ≡ true
+      → OwesAt (got t run v (suc y)) true (grant s run v (suc y))
+  owes_on y l m u = elim (cases_lt y t) [
+    | inl q ↦
+        subst (λ (have : ℕ). OwesAt have true (grant s run v (suc y)))
+        (sym (got_none t run v (suc y) (omega arith)))
+        (next_owes y (omega (arith, w.in_run)) l 0 true (no_wake u)
+        (before_owes y (omega arith) (omega (arith, w.in_run))))
+    | inr q ↦
+        subst (λ (have : ℕ). OwesAt have true (grant s run v (suc y)))
+        (sym (got_next t run v y q))
+        (next_owes y (omega (arith, w.in_run)) l (got t run v y + cond (holds (held run y) v) 1 0) true (no_wake u)
+        (slot_owes (s.budget v) (s.period v) t d (over v) (got t run v y) (s.awake v y) (holds (held run y) v)
+        (grant s run v y) (may_run_by y q (omega arith)) (owes_at y q (omega arith))))
+  ]
+    where
+      no_wake : s.awake v y ≡ true → (true && not (s.awake v y)) ≡ wakes s v (suc y)
+      no_wake e = ap not e ∙ sym (and_right (s.awake v (suc y)) (not (s.awake v y)) (ap not e))
+
+  owes_up : IsUp s v x → OwesAt (got t run v x) true (grant s run v x)
+  owes_up (now u) =
+      subst (λ (b : Bool). OwesAt (got t run v x) b (grant s run v x)) u (owes_at x w.in_order (omega arith))
+  owes_up (before y e u) =
+      subst (λ (z : ℕ). OwesAt (got t run v z) true (grant s run v z)) (sym e)
+      (owes_on y (omega (arith, w.in_order)) (omega arith) u)
 
 -- what is no server had nothing
 not_seen : (s : Servers) (over : ℕ → ℕ) (n : ℕ) (run : List (Option ℕ)) (d t x : ℕ) → Window s over n run d t x
@@ -287,16 +321,20 @@ last_sum c left own others m t x d total some fit l sum h =
     let q : (total + left + own) * m ≤ ((d - t) + others) * m = omega (arith, h, p, ap (λ (z : ℕ). c * z) e) in
     omega (arith, le_of_mul-le-mul_right {m = total + left + own} {n = (d - t) + others} {k = m} q some)
 
-pub late_by_others : LateByOthers
-late_by_others s over n run v x servers shares r l h =
-    let (is, up, some) = left-is s run v x h in
+-- at each moment at which it is up
+pub late_at : (s : Servers) → AreServers s → SharesFit s → (over : ℕ → ℕ) (n : ℕ) (run : List (Option ℕ))
+    → OverrunRun s over n run → (v x : ℕ) → x ≤ n → IsServer s v → (grant s run v x).used < (grant s run v x).granted
+    → IsUp s v x
+    → x + ((grant s run v x).granted - (grant s run v x).used) + over v
+    ≤ (grant s run v x).due + sum_below over s.count
+late_at s servers shares over n run r v x l is some up =
     let g : Grant = grant s run v x in
     let d : ℕ = g.due in
     let left : ℕ = g.granted - g.used in
     let (t, w) = the_window s over n run r d x (omega arith) in
     let own : (got t run v x + left) * s.period v + t * s.budget v ≤ d * s.budget v
-    = had_of (s.budget v) (s.period v) t d (over v) (got t run v x) (s.awake v x) g up some refl
-    (owes_at s servers over n run d t x w v is x w.in_order (omega arith)) in
+    = had_of (s.budget v) (s.period v) t d (over v) (got t run v x) true g refl some refl
+    (owes_up s servers over n run d t x w v is up) in
     let begins : t ≤ d
     = le_of_mul-le-mul_right {m = t} {n = d} {k = s.budget v}
     (let q : t * s.budget v ≤ d * s.budget v = omega (arith, own) in q) (servers.some v is) in
@@ -335,3 +373,8 @@ late_by_others s over n run v x servers shares r l h =
       sum_below-mul shares.share d s.count,
       sum_below-mul over shares.slots s.count,
     ))
+
+pub late_by_others : LateByOthers
+late_by_others s over n run v x servers shares r l h =
+    let (is, up, some) = left-is s run v x h in
+    late_at s servers shares over n run r v x (omega arith) is some (now up)

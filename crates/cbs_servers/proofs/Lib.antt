@@ -1,14 +1,14 @@
 pub mod Steps
 pub mod Windows
+mod OverrunSteps
+pub mod LateByOthers
+mod NoOverrun
 pub mod NeverLate
 pub mod Accounts
 mod Counted
 pub mod BusySupply
 pub mod Gives
 pub mod Runs
-mod Examples
-mod OverrunSteps
-pub mod LateByOthers
 mod Parts
-mod NoOverrun
+mod Examples
 mod OverrunExamples

@@ -267,7 +267,7 @@ over_is_cbs s n run servers r = record {
       };
 }
 
-cbs_is_over : (s : Servers) (n : ℕ) (run : List (Option ℕ)) → AreServers s → CbsRun s n run
+pub cbs_is_over : (s : Servers) (n : ℕ) (run : List (Option ℕ)) → AreServers s → CbsRun s n run
     → OverrunRun s no_overrun n run
 cbs_is_over s n run servers r = record {
   long = r.long;
