@@ -1,5 +1,5 @@
 -- A workload whose VCPUs start where it is told, and are blocked where it is told.
-use Rattle.std.proofs.Common.{◌≡◌, ◌≢◌, ℕ, zero, suc, ◌<◌, ◌≤◌, ◌==◌, Bool, true, false, cond, ◌&&◌, nat_lt, List, [], ◌∷◌, ◌++◌, length, Option, Some, None, refl, sym, ◌∙◌, ap, arith, subst, inl, inr, eqb-true, eq-eqb, lt-ltb, le-ltb, below_more}
+use Rattle.std.proofs.Common.{◌≡◌, ◌≢◌, ℕ, zero, suc, ◌<◌, ◌≤◌, ◌==◌, Bool, true, false, cond, nat_lt, List, [], ◌∷◌, ◌++◌, length, Option, Some, None, refl, sym, ◌∙◌, ap, arith, subst, inl, inr, eq-eqb, lt-ltb, le-ltb, below_more}
 use Rattle.std.proofs.lemmas.Bool.{cases_Bool, cases_eq, cases_lt, and_from, and_left, and_right, ne_eqb, cond-true, cond-false, false≢true}
 use Rattle.std.proofs.lemmas.List.{length_push}
 use Rattle.std.proofs.lemmas.Option.{none-some}
@@ -13,7 +13,7 @@ use Rattle.release_file.specs.declared.workload.Wake.{Wake}
 use Rattle.release_file.specs.declared.workload.WakeKind.{WakeKind}
 use Rattle.release_file.specs.declared.workload.WakeKind.TheVariants.{Start, Wake as ToWake, Block}
 use Rattle.release_file.specs.Workload.{row_at, last_row, is_of, is_start, starts, may_follow, IsWorkload}
-use Rattle.release_file.specs.WorkloadFile.{slot_before, is_at, has_row_at}
+use Rattle.release_file.specs.WorkloadFile.{slot_before, is_at}
 use Rattle.release_file.proofs.WakesMore.{WakeKeeps, workload_more}
 use Rattle.release_file.proofs.WakesTaking.{no_rows}
 use Rattle.idle_hosts.proofs.Changes.{row_of, change, last_of, start_row, starts_now, change_follows, change_starts, change_none, change_off, last_same, last_new, last_none, start_same, start_new, start_none}
@@ -133,7 +133,8 @@ module _ (sys : SystemView) (start : ℕ → ℕ) (wants : ℕ → ℕ → Bool)
       in_limit = limit;
       in_order = before (length rows) (omega arith);
       known = vcpu;
-      alone = ap is_some (none_below (is_at m x) (row_at rows) (length rows) (λ i l. elim (cases_eq (row_at rows i).vcpu m) [
+      alone = ap is_some (none_below (is_at m x) (row_at rows) (length rows)
+      (λ i l. elim (cases_eq (row_at rows i).vcpu m) [
         | inr ne ↦ and_left (is_of m (row_at rows i)) ((row_at rows i).at == x) (ne_eqb (row_at rows i).vcpu m ne)
         | inl e ↦
             and_right (is_of m (row_at rows i)) ((row_at rows i).at == x)
@@ -220,14 +221,16 @@ module _ (sys : SystemView) (start : ℕ → ℕ) (wants : ℕ → ℕ → Bool)
       → change_told m x ≡ o → (more : List Wake) × Built (seen_by x (suc m)) more
   one_vcpu rows m x h limit None none =
       (rows, no_change (seen_by x m) (seen_by x (suc m)) rows m x h (next_vcpu m x) none)
-  one_vcpu rows m x h limit (Some what) some =
-      (rows ++ row_of m x what ∷ [],
-      one_change (seen_by x m) (seen_by x (suc m)) rows m x what h (next_vcpu m x) some limit)
+  one_vcpu rows m x h limit (Some what) some = (
+    rows ++ row_of m x what ∷ [],
+    one_change (seen_by x m) (seen_by x (suc m)) rows m x what h (next_vcpu m x) some limit,
+  )
 
   vcpus_below : (x : ℕ) → x ≤ LIMIT → ((rows : List Wake) × Built (λ v. x) rows) → (m : ℕ)
       → (more : List Wake) × Built (seen_by x m) more
   vcpus_below x limit (rows, h) zero =
-      (rows, built_at (λ v. x) (seen_by x 0) rows (λ v. sym (cond-false {A = ℕ} (nat_lt v 0) (suc x) x (le-ltb v 0 (omega arith)))) h)
+      (rows, built_at (λ v. x) (seen_by x 0) rows
+      (λ v. sym (cond-false {A = ℕ} (nat_lt v 0) (suc x) x (le-ltb v 0 (omega arith)))) h)
   vcpus_below x limit start_rows (suc m) =
       let (rows, h) = vcpus_below x limit start_rows m in
       one_vcpu rows m x h limit (change_told m x) refl
@@ -239,7 +242,8 @@ module _ (sys : SystemView) (start : ℕ → ℕ) (wants : ℕ → ℕ → Bool)
     early = λ i l. omega (arith, h.early i l, most (length sys.parts) x (row_at rows i).vcpu);
     lasts = λ v. one v (is_of v) (last_told v) (h.lasts v) (λ off. last_same v (is_vcpu sys v) (start v) (wants v) x
         (change_off v (is_vcpu sys v) (start v) (wants v) off x));
-    firsts = λ v. one v (starts v) (start_told v) (h.firsts v) (λ off. start_same v (is_vcpu sys v) (start v) (wants v) x
+    firsts = λ v. one v (starts v) (start_told v) (h.firsts v)
+        (λ off. start_same v (is_vcpu sys v) (start v) (wants v) x
         (change_none v (is_vcpu sys v) (start v) (wants v) x (change_off v (is_vcpu sys v) (start v) (wants v) off x)));
   }
     where
@@ -262,18 +266,21 @@ module _ (sys : SystemView) (start : ℕ → ℕ) (wants : ℕ → ℕ → Bool)
 
   -- all slots below t
   pub built : (t : ℕ) → t ≤ suc LIMIT → (rows : List Wake) × Built (λ v. t) rows
-  built zero l = ([], record {
-    workload = no_rows sys;
-    early = λ i m. absurd (omega arith);
-    lasts = λ v. record {
-      last = last_below-zero (is_of v) (row_at []) ∙ sym (last_none v (is_vcpu sys v) (start v) (wants v));
-      each = λ y m. absurd (omega arith);
-    };
-    firsts = λ v. record {
-      last = last_below-zero (starts v) (row_at []) ∙ sym (start_none v (is_vcpu sys v) (start v) (wants v));
-      each = λ y m. absurd (omega arith);
-    };
-  })
+  built zero l = (
+    [],
+    record {
+      workload = no_rows sys;
+      early = λ i m. absurd (omega arith);
+      lasts = λ v. record {
+        last = last_below-zero (is_of v) (row_at []) ∙ sym (last_none v (is_vcpu sys v) (start v) (wants v));
+        each = λ y m. absurd (omega arith);
+      };
+      firsts = λ v. record {
+        last = last_below-zero (starts v) (row_at []) ∙ sym (start_none v (is_vcpu sys v) (start v) (wants v));
+        each = λ y m. absurd (omega arith);
+      };
+    },
+  )
   built (suc x) l =
       let (rows, h) = vcpus_below x (omega arith) (built x (omega arith)) (length sys.parts) in
       (rows, all_at x rows h)

@@ -55,9 +55,10 @@ module _ (v : ℕ) (here : Bool) (start : ℕ) (wants : ℕ → Bool) where
   pub starts_behind : (x : ℕ) → starts_now x ≡ true → (has_begun (suc x) ≡ true) × (is_blocked x ≡ false)
   starts_behind x h =
       let a : (here ≡ true) × ((x == start) ≡ true) = and_parts here (x == start) h in
-      let e : x ≡ start = eqb-true x start a.1 in
-      (and_from here (nat_lt start (suc x)) a.0 (lt-ltb start (suc x) (omega (arith, e))),
-      and_right here _ (and_left (nat_lt start x) (wants x) (le-ltb start x (omega (arith, e)))))
+      let e : x ≡ start = eqb-true x start a.1 in (
+        and_from here (nat_lt start (suc x)) a.0 (lt-ltb start (suc x) (omega (arith, e))),
+        and_right here _ (and_left (nat_lt start x) (wants x) (le-ltb start x (omega (arith, e)))),
+      )
 
   blocked_begun : (x y : ℕ) → x ≤ y → is_blocked x ≡ true → has_begun y ≡ true
   blocked_begun x y l h =
@@ -108,7 +109,10 @@ module _ (v : ℕ) (here : Bool) (start : ℕ) (wants : ℕ → Bool) where
 
   pub last_stood : (t : ℕ) → Stood t (last_of t)
   unfolding last_of
-  last_stood zero = record { begun = sym (and_right here (nat_lt start 0) (le-ltb start 0 (omega arith))); blocked = refl }
+  last_stood zero = record {
+    begun = sym (and_right here (nat_lt start 0) (le-ltb start 0 (omega arith)));
+    blocked = refl;
+  }
   last_stood (suc x) =
       stood_later x (last_of x) (last_stood x) (starts_now x) (is_blocked x) (was_blocked x) refl refl refl
 

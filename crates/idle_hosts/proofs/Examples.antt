@@ -1,21 +1,18 @@
 -- A worked host: a VCPU that starts at slot 4, whose guest has a job there that is done by slot 6,
 -- and what is said of it where it blocks then, too soon, or never. A definition that says otherwise
 -- breaks one of these.
-use Rattle.std.proofs.Common.{◌≡◌, ℕ, zero, suc, ◌+◌, ◌<◌, true, false, Some, None, List, [], ◌∷◌, refl, sym, arith, subst, lit<, lit≤}
+use Rattle.std.proofs.Common.{◌≡◌, ℕ, zero, suc, ◌+◌, ◌<◌, true, false, Some, None, List, [], ◌∷◌, refl, arith, lit<, lit≤}
 use Rattle.std.proofs.lemmas.Bool.{false≢true}
 use Rattle.csv_rows.specs.Last.{last_below}
-use Rattle.slot_model.specs.declared.job.Job.{Job}
 use Rattle.slot_model.specs.declared.sched.Sched.TheVariants.{Edf}
 use Rattle.slot_model.specs.Slots.{sum_below}
-use Rattle.slot_model.specs.Run.{guest, Pending}
-use Rattle.slot_model.specs.Task.{SporadicTask, plain_task}
-use Rattle.tree_model.specs.declared.pinned_core.Core.{Core as CoreView}
+use Rattle.slot_model.specs.Task.{plain_task}
 use Rattle.tree_model.specs.declared.place.Parent.TheVariants.{Core as on_core}
 use Rattle.tree_model.specs.View.{SystemView}
 use Rattle.release_file.specs.declared.workload.Wake.{Wake}
 use Rattle.release_file.specs.declared.workload.WakeKind.{WakeKind}
 use Rattle.release_file.specs.declared.workload.WakeKind.TheVariants.{Start, Block}
-use Rattle.release_file.specs.Workload.{is_started, start_of, is_blocked_at}
+use Rattle.release_file.specs.Workload.{start_of, is_blocked_at}
 use Rattle.halting.proofs.Examples.{jobs, own_run, none_pending_at_2}
 use Rattle.idle_hosts.specs.Hosts.{IsIdleAt, IsBlockedWhereIdle, StartsAt}
 
@@ -47,7 +44,7 @@ it_starts_at_4 = record { started = refl; at_slot = refl }
 
 and_no_sooner : StartsAt rows 0 3 → ⊥
 unfolding last_below
-and_no_sooner h = let no : 4 ≡ 3 = h.at_slot in omega arith
+and_no_sooner h = let no : 4 ≡ 3 = h.at_slot in omega (arith, no)
 
 no_other_starts : StartsAt rows 1 0 → ⊥
 unfolding last_below

@@ -1,6 +1,6 @@
--- The host whose leaves are blocked where they are idle. Whether a leaf is idle at a slot is told by
--- the slots before it; a workload is built of what is told of all.
-use Rattle.std.proofs.Common.{◌≡◌, ℕ, zero, suc, ◌+◌, ◌-◌, ◌<◌, ◌≤◌, Bool, true, false, ◌&&◌, nat_lt, List, [], take, length, get_or, map, Option, None, refl, sym, ◌∙◌, ap, arith, subst, inl, inr, eq-eqb, lt-ltb, le-ltb}
+-- The host whose leaves are blocked where they are idle. Whether a leaf is idle at a slot is told
+-- by the slots before it; a workload is built of what is told of all.
+use Rattle.std.proofs.Common.{◌≡◌, ℕ, zero, suc, ◌+◌, ◌-◌, ◌<◌, ◌≤◌, Bool, true, false, ◌&&◌, nat_lt, List, [], take, length, map, Option, None, refl, sym, ◌∙◌, ap, arith, subst, inl, inr, eq-eqb, lt-ltb, le-ltb}
 use Rattle.std.specs.List.{range_with_len}
 use Rattle.std.proofs.lemmas.Bool.{cases_Bool, and_parts, and_from, and_left, and_right, both_ways, false≢true}
 use Rattle.std.proofs.lemmas.List.{get_or-take}

@@ -1,10 +1,10 @@
 -- Whether no job of a guest is pending, by what its run holds before.
-use Rattle.std.proofs.Common.{◌≡◌, ◌⊎◌, ℕ, ◌<◌, ◌≤◌, Bool, true, false, List, take, length, Option, None, refl, sym, ap, arith, inl, inr}
+use Rattle.std.proofs.Common.{◌≡◌, ◌⊎◌, ℕ, ◌<◌, Bool, true, false, List, take, length, Option, None, refl, sym, ap, arith, inl, inr}
 use Rattle.std.proofs.lemmas.Bool.{false≢true}
 use Rattle.std.proofs.lemmas.List.{get_or-take}
 use Rattle.slot_model.specs.declared.job.Job.{Job}
 use Rattle.slot_model.specs.Task.{SporadicTask}
-use Rattle.slot_model.specs.Run.{held, holds, service, Level, guest, Pending}
+use Rattle.slot_model.specs.Run.{held, holds, service, guest, Pending}
 use Rattle.slot_model.proofs.Counts.{count_same}
 use Rattle.slot_model.proofs.Runs.{search_below, is_pending}
 

@@ -1,12 +1,12 @@
 -- What the rows that were built say of each VCPU.
-use Rattle.std.proofs.Common.{◌≡◌, ℕ, suc, ◌<◌, Bool, true, false, cond, List, Some, None, refl, sym, ◌∙◌, ap, lt-ltb}
+use Rattle.std.proofs.Common.{◌≡◌, ℕ, suc, ◌<◌, Bool, true, false, cond, List, Some, None, refl, ◌∙◌, ap, lt-ltb}
 use Rattle.std.specs.Prelude.{is_some}
 use Rattle.std.proofs.lemmas.Bool.{and_from}
 use Rattle.tree_model.specs.View.{SystemView}
 use Rattle.trace_file.specs.Rules.{is_vcpu}
 use Rattle.release_file.specs.declared.workload.Wake.{Wake}
 use Rattle.release_file.specs.declared.workload.WakeKind.TheVariants.{Start}
-use Rattle.release_file.specs.Workload.{blocks, slot_of, is_started, start_of, is_started_at, is_blocked_at}
+use Rattle.release_file.specs.Workload.{blocks, slot_of, start_of, is_started_at, is_blocked_at}
 use Rattle.idle_hosts.specs.Hosts.{StartsAt}
 use Rattle.idle_hosts.proofs.Changes.{row_of, is_blocked, has_begun, last_stood}
 use Rattle.idle_hosts.proofs.Built.{Built, start_told}
@@ -30,7 +30,8 @@ module _ (sys : SystemView) (start : ℕ → ℕ) (wants : ℕ → ℕ → Bool)
 
   pub starts_says : (v : ℕ) → is_vcpu sys v ≡ true → start v < t → StartsAt rows v (start v)
   starts_says v on l =
-      let begun : has_begun v (is_vcpu sys v) (start v) (wants v) t ≡ true = and_from (is_vcpu sys v) _ on (lt-ltb (start v) t l) in
+      let begun : has_begun v (is_vcpu sys v) (start v) (wants v) t ≡ true
+      = and_from (is_vcpu sys v) _ on (lt-ltb (start v) t l) in
       record {
         started = ap is_some (h.firsts v).last ∙ (some_where _ _ ∙ begun);
         at_slot = start_says v ∙ ap (λ (b : Bool). slot_of (cond b (Some (row_of v (start v) Start)) None)) begun;

@@ -1,5 +1,5 @@
 -- Runs are alike as far as the workloads say the same.
-use Rattle.std.proofs.Common.{◌≡◌, ℕ, ◌/◌, ◌<◌, ◌≤◌, Bool, false, cond, ◌&&◌, ◌||◌, nat_lt, leb, List, take, length, get_or, Option, None, refl, sym, ◌∙◌, ap, arith, subst}
+use Rattle.std.proofs.Common.{◌≡◌, ℕ, ◌/◌, ◌<◌, ◌≤◌, Bool, false, cond, ◌&&◌, ◌||◌, nat_lt, leb, List, take, get_or, Option, None, refl, sym, ◌∙◌, ap, arith, subst}
 use Rattle.std.proofs.lemmas.List.{get_or-take, length-take-le}
 use Rattle.slot_model.specs.declared.job.Job.{Job}
 use Rattle.slot_model.specs.Task.{SporadicTask}

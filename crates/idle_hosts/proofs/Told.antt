@@ -1,5 +1,5 @@
 -- What is told of the last row of a kind, slot by slot, while rows come behind.
-use Rattle.std.proofs.Common.{◌≡◌, ℕ, suc, ◌<◌, ◌≤◌, Bool, true, false, cond, ◌&&◌, List, [], ◌∷◌, ◌++◌, length, Option, Some, None, refl, sym, ◌∙◌, ap, arith, subst, inl, inr, le-leb}
+use Rattle.std.proofs.Common.{◌≡◌, ℕ, suc, ◌<◌, ◌≤◌, Bool, true, false, cond, ◌&&◌, List, [], ◌∷◌, ◌++◌, length, Option, Some, sym, ◌∙◌, ap, arith, subst, inl, inr, le-leb}
 use Rattle.std.proofs.lemmas.Bool.{cases_eq, and_from, and_left, and_right, lt-leb}
 use Rattle.std.proofs.lemmas.List.{get_or_append_left, length_push}
 use Rattle.std.proofs.Math.Seq.{get_or-append_seam}
@@ -37,7 +37,9 @@ pub told_other : (passes : Wake → Bool) (target : ℕ → Option Wake) (seen :
     → passes w ≡ false → Told passes target seen ws → Told passes target seen (ws ++ w ∷ [])
 told_other passes target seen ws w e h = record {
   last = with_row passes ws w false e ∙ h.last;
-  each = λ y l. with_row (λ row. is_by y row && passes row) ws w false (and_right (is_by y w) (passes w) e) ∙ h.each y l;
+  each =
+      λ y l. with_row (λ row. is_by y row && passes row) ws w false (and_right (is_by y w) (passes w) e)
+      ∙ h.each y l;
 }
 
 -- one that passes, at the next slot

@@ -34,8 +34,8 @@ pub record StartsAt (rows : List Wake) (q slot : ℕ) : Type 0 where
   pub started : is_started rows q ≡ true
   pub at_slot : start_of rows q ≡ slot
 
--- n slots of a host each of whose VCPUs starts where it is told: a workload, its run of each core in
--- the order of the file, and runs of these jobs on each VCPU, a guest's or servers'. Leaves are
+-- n slots of a host each of whose VCPUs starts where it is told: a workload, its run of each core
+-- in the order of the file, and runs of these jobs on each VCPU, a guest's or servers'. Leaves are
 -- blocked exactly where they are idle, and inner parts never.
 pub record IdleHost (sys : SystemView) (budgets starts : List ℕ) (n : ℕ) (jobs : List (List Job))
     : Type 0 where
@@ -63,8 +63,8 @@ pub record AreLegalOnCores (sys : SystemView) (budgets : List ℕ) (jobs : List 
     pub inner : (q : ℕ) → is_vcpu sys q ≡ true → is_leaf_at sys q ≡ false →
         LegalRelease (server_tasks sys budgets (Part q)) (jobs_at jobs q)
 
--- for all budgets, starts and legal releases there is such a host, over as many slots as the rows of
--- a workload may reach
+-- for all budgets, starts and legal releases there is such a host, over as many slots as the rows
+-- of a workload may reach
 abbrev pub IdleHostsExist : Type 0
 IdleHostsExist =
     (sys : SystemView) (budgets starts : List ℕ) (n : ℕ) (jobs : List (List Job)) → IsSystem sys →

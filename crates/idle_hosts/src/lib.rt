@@ -4,8 +4,8 @@
 
 ghost use Rattle.idle_hosts.specs.Hosts.{IdleHostsExist};
 
-/// For all budgets, starts and legal releases there is a host whose leaves are blocked exactly where
-/// none of their jobs is pending, but for the slot of their start.
+/// For all budgets, starts and legal releases there is a host whose leaves are blocked exactly
+/// where none of their jobs is pending, but for the slot of their start.
 pub fn has_idle_hosts()
     ensures exist { IdleHostsExist }
 {}
