@@ -1,7 +1,7 @@
 ghost use Rattle.tree_model.specs.Plans.{IsPlan};
 
 use crate::helpers::{HOST, MEMORY, planned, system_of};
-use isolation::{Isolation, isolations};
+use isolation::{CoreBudgets, Isolation, core_budgets, isolations};
 use std::alloc::Global;
 use std::process::Abort;
 use tree_model::{Plan, System};
@@ -16,6 +16,18 @@ fn isolation_in(rt: &impl Abort, alloc: Global, sys: &System, plan: &Plan, v: u3
         }
     }
     panic!(rt; "no part of a core");
+}
+
+/// What is told of the core at a place.
+fn budgets_on(rt: &impl Abort, alloc: Global, sys: &System, plan: &Plan, core: u32) -> CoreBudgets
+    requires { IsPlan sys.now plan.now }
+{
+    for row in &core_budgets(alloc, sys, plan).expect(rt, MEMORY) {
+        if row.core == core {
+            return *row;
+        }
+    }
+    panic!(rt; "no core with a part on it");
 }
 
 /// Of two cores the first is full: 3 slots in 6, ahead of 2 in 4. Neither the part of the second
@@ -68,4 +80,15 @@ fn equal_periods_are_isolated(rt: HostRuntime) {
     let plan = planned(&rt, rt.alloc(), &sys);
     let kept = isolation_in(&rt, rt.alloc(), &sys, &plan, 0);
     assert!(rt; kept == Isolation::Isolated { last: 7 });
+}
+
+/// On the first core 3 and 2 slots, where 4 is the shortest period; on the second 4 in 4.
+#[test]
+fn each_core_has_its_sum_and_its_shortest_period(rt: HostRuntime) {
+    let sys = system_of(&rt, rt.alloc(), PAIR);
+    let plan = planned(&rt, rt.alloc(), &sys);
+    let first = budgets_on(&rt, rt.alloc(), &sys, &plan, 0);
+    assert!(rt; first.budgets == 5 && first.shortest == 4);
+    let second = budgets_on(&rt, rt.alloc(), &sys, &plan, 1);
+    assert!(rt; second.budgets == 4 && second.shortest == 4);
 }
