@@ -41,10 +41,12 @@ judged_stolen sys events v (Some f) =
     same : (k : ℕ) → judged_at Stolen sys events v f k ≡ leb (begins (period_of sys v) f (suc k)) (end_of events)
     same k = elim (cases_Bool (leb (begins (period_of sys v) f (suc k)) (end_of events))) [
       | inl e ↦
-          ends_judged (period_of sys v) f (end_of events) k (leb-true (begins (period_of sys v) f (suc k)) (end_of events) e)
+          ends_judged (period_of sys v) f (end_of events) k (leb-true (begins (period_of sys v) f (suc k))
+          (end_of events) e)
           ∙ sym e
       | inr e ↦
-          and_left (leb (begins (period_of sys v) f (suc k)) (end_of events)) (is_clear (λ x. false) (period_of sys v) f k)
+          and_left (leb (begins (period_of sys v) f (suc k)) (end_of events)) (is_clear (λ x. false)
+          (period_of sys v) f k)
           e ∙ sym e
     ]
 

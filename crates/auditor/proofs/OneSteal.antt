@@ -1,5 +1,5 @@
--- A trace has one finding of stolen time and one tally of it of each VCPU; where none is denied, the
--- kept periods are all that end by the end of the trace.
+-- A trace has one finding of stolen time and one tally of it of each VCPU; where no period is denied,
+-- the kept periods are all that end by the end of the trace.
 use Rattle.std.proofs.Common.{◌≡◌, ℕ, ◌+◌, ◌<◌, ◌≤◌, List, length, Option, Some, None, refl, sym, ◌∙◌, ap, subst, arith, inl, inr}
 use Rattle.std.proofs.lemmas.Bool.{cases_lt}
 use Rattle.std.proofs.lemmas.List.{ext_get_or}

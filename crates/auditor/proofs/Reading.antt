@@ -61,7 +61,8 @@ over_breaks sys budgets events v f k is = record {
   so =
       over_breach (limits_of Core sys budgets v) _ _
       (le-ltb (time_of Core sys events v f k) (budget_of budgets v) (omega (arith, is.over)))
-      (ap (λ (z : Bool). is_above (cond {A = Option ℕ} z None (Some (budget_of budgets v))) (time_of Core sys events v f k))
+      (ap (λ (z : Bool). is_above (cond {A = Option ℕ} z None (Some (budget_of budgets v)))
+      (time_of Core sys events v f k))
       is.no_extra ∙ lt-ltb (budget_of budgets v) (time_of Core sys events v f k) is.over);
 }
 

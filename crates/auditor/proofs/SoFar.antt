@@ -30,7 +30,8 @@ abbrev judged : Counted → SystemView → List Event → ℕ → ℕ
 judged counted sys events w = judged_by counted sys events w (start_of events w)
 
 -- of a whole trace
-pub record IsSoFar (counted : Counted) (sys : SystemView) (rows : Rows) (watches : Watches) (v : ℕ) (s : SoFar) : Type 0 where
+pub record IsSoFar (counted : Counted) (sys : SystemView) (rows : Rows) (watches : Watches) (v : ℕ)
+    (s : SoFar) : Type 0 where
   pub few : s.periods ≤ v * LAST_MOMENT
   pub found : (budgets : List ℕ) (events : List Event) → AreAtEnd counted sys budgets events rows watches
       → (s.periods ≡ sum_below (judged counted sys events) v) × IsFirstOfAll counted sys budgets events v s.first
@@ -113,7 +114,8 @@ module _ (sys : SystemView) (rows : Rows) (watches : Watches) (v : ℕ) (s : SoF
       go : (o : Option Found) → IsFirstOfAll Stolen sys budgets events v o
           → IsStealFinding sys budgets events (denied_of s.periods o)
       go None none = (
-        λ w f k denied. none w f k Over (omega (arith, all, denied.period.is_part)) (denied_breaks sys budgets events w f k
+        λ w f k denied. none w f k Over (omega (arith, all, denied.period.is_part))
+            (denied_breaks sys budgets events w f k
             plan denied),
         periods,
       )

@@ -164,7 +164,8 @@ finding_of_worked = record {
             (elim (cases_lt j 1) [
               | inl sooner ↦ absurd (not_first j sooner own)
               | inr later ↦
-                  let at = from_1000 g j (subst (λ (z : ℕ). HasPeriod host (worked 8000) z g j) (of_a w g j is) is.period)
+                  let at = from_1000 g j (subst (λ (z : ℕ). HasPeriod host (worked 8000) z g j)
+                  (of_a w g j is) is.period)
                   in omega (arith, later, at)
             ]);
         first = λ w g j l. absurd (omega (arith, l));

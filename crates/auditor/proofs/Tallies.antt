@@ -70,7 +70,8 @@ module _ (sys : SystemView) (budgets : List ℕ) (events : List Event) (v : ℕ)
   pub few_over : many ≤ t.judged
   few_over =
       number_few (λ k. (f : ℕ) × IsJudgedBy Stolen sys events v f k)
-      (λ k. (f : ℕ) × IsEndedOver Stolen sys budgets events v f k) t.judged many h.tallied.judged h.ended_over over_judged
+      (λ k. (f : ℕ) × IsEndedOver Stolen sys budgets events v f k) t.judged many h.tallied.judged h.ended_over
+      over_judged
 
   kept_number : IsPlan sys budgets → IsNumberOf (λ k. (f : ℕ) × IsKept sys budgets events v f k) (t.judged - many)
   kept_number plan =

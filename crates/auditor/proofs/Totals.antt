@@ -172,7 +172,12 @@ ended_number counted sys budgets events v f ended from m part some start e h l c
           (same_Some other.0 f (sym other.1.over.period.started ∙ start)) other.1 in
           let less : k < ended = elim (cases_lt k ended) [
             | inl m ↦ m
-            | inr m ↦ absurd (omega (arith, is.ended, ends_after (period_of sys v) f ended from (end_of events) k e l m))
+            | inr m ↦ absurd (omega (
+              arith,
+              is.ended,
+              ends_after (period_of sys v) f ended from
+                  (end_of events) k e l m,
+            ))
           ] in
           (less, ap is_over_breach (sym (own k less) ∙ is.over.so));
       count = count;
@@ -199,7 +204,8 @@ whole_below : (period f ended from end : ℕ) → from ≡ begins period f ended
 whole_below period f ended from end e h k l =
     elim (cases_lt k ended) [ inl m ↦ m | inr m ↦ absurd (omega (arith, e, mul-le-mul_right period m)) ]
 
-tally_on : (counted : Counted) (sys : SystemView) (budgets : List ℕ) (events : List Event) (v f ended from got : ℕ) (t : Tally)
+tally_on : (counted : Counted) (sys : SystemView) (budgets : List ℕ) (events : List Event) (v f ended from got : ℕ)
+    (t : Tally)
     → v < length sys.parts → 1 ≤ period_of sys v → start_of events v ≡ Some f → from ≡ begins (period_of sys v) f ended
     → from ≤ end_of events → end_of events < from + period_of sys v
     → got ≡ count_between (counts counted sys events v) from (end_of events)
@@ -207,7 +213,8 @@ tally_on : (counted : Counted) (sys : SystemView) (budgets : List ℕ) (events :
     (whole_got (counts counted sys events v) (limits_of counted sys budgets v) f)
     (whole_breach (counts counted sys events v) (excuses counted events v) (limits_of counted sys budgets v) f) ended t
     → IsTallyBy counted sys budgets events v
-    (cond (ltb from (end_of events)) (counted_on t 1 false got (breach_of (limits_of counted sys budgets v) false got)) t)
+    (cond (ltb from (end_of events)) (counted_on t 1 false got (breach_of
+    (limits_of counted sys budgets v) false got)) t)
 tally_on counted sys budgets events v f ended from got t part some start e h l eg of =
     let end = end_of events in
     let period = period_of sys v in
@@ -215,7 +222,8 @@ tally_on counted sys budgets events v f ended from got t part some start e h l e
     let whole
     = tallied_same (is_clear (excuses counted events v) period f) (is_judged (excuses counted events v) period f end)
     (whole_got (counts counted sys events v) r f) (time_of counted sys events v f)
-    (whole_breach (counts counted sys events v) (excuses counted events v) r f) (breach_at counted sys budgets events v f) ended t
+    (whole_breach (counts counted sys events v) (excuses counted events v) r f)
+    (breach_at counted sys budgets events v f) ended t
     (λ k m. sym (judged_then (excuses counted events v) period f ended from end k e h m))
     (λ k m. sym (got_whole (counts counted sys events v) period f end k (ends_by period f ended from end k e h m)))
     (λ k m. sym (whole_is counted sys budgets events v f ended from k e h m)) of in
@@ -273,7 +281,8 @@ pub settled_on : (counted : Counted) (sys : SystemView) (budgets : List ℕ) (ev
     → at < new.from + r.period → tally ≡ cut_tally new (breach_of r false new.got) → many ≡ new.tally.over
     → broken ≡ first_broken new.broken (breach_of r false new.got) new.from new.got
     → IsSettled counted sys budgets events v tally many broken
-settled_on counted sys budgets events v at r state w new tally many broken part some er ea es t tells now within et em eb
+settled_on counted sys budgets events v at r state w new tally many broken part some er ea es t tells now within et em
+    eb
     =
     let own = limits_of counted sys budgets v in
     let on : TellsOn own (shown counted (state_at sys events (length events) v)) w at new

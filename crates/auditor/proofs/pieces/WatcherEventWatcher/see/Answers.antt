@@ -8,7 +8,8 @@ take-requires-clause-awaits c =
       start.watches.counted,
       events ++ c.args.event ∷ [],
       length events,
-      awaits_more start.watches.counted c.args.sys.now c.args.self.now.plan events c.args.event [] c.args.rows.now c.args.self.now.watches
+      awaits_more start.watches.counted c.args.sys.now c.args.self.now.plan events c.args.event [] c.args.rows.now
+          c.args.self.now.watches
           before.keep before.after seen.behind,
     )
 
@@ -18,6 +19,7 @@ returns c start events seen before = record {
   system = seen.system;
   plan = seen.plan;
   behind =
-      behind_next start.watches.counted c.args.sys.now c.args.self.now.plan events c.args.event c.args.rows.now c.args.self.now.watches
+      behind_next start.watches.counted c.args.sys.now c.args.self.now.plan events c.args.event c.args.rows.now
+      c.args.self.now.watches
       c.take.new.self before.after seen.behind (c.take.ensures start.watches.counted);
 }

@@ -10,7 +10,8 @@ use Rattle.auditor.proofs.watches.Watches.advance_last.Goals as goal
 use Rattle.auditor.proofs.watches.Watches.advance_last.Goals.{In-Some}
 
 -- the VCPU has its core and is not blocked
-stands : (c : In-Some) (counted : Counted) (sys : SystemView) (budgets : List ℕ) (events : List Event) (n : ℕ) (rows : Rows)
+stands : (c : In-Some) (counted : Counted) (sys : SystemView) (budgets : List ℕ) (events : List Event) (n : ℕ)
+    (rows : Rows)
     → AwaitsSwitch counted sys budgets events n c.args.event rows c.args.last c.args.self.now
     → StandsSo sys events n c.in-Some.v (record { has_core = true; is_blocked = false })
 stands c counted sys budgets events n rows waits =

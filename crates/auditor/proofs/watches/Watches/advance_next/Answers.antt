@@ -10,7 +10,8 @@ use Rattle.auditor.proofs.watches.Watches.advance_next.Goals as goal
 use Rattle.auditor.proofs.watches.Watches.advance_next.Goals.{After-before_run}
 
 -- the VCPU stands as one that is to run
-stands : (c : After-before_run) (counted : Counted) (sys : SystemView) (budgets : List ℕ) (events : List Event) (n : ℕ) (rows : Rows)
+stands : (c : After-before_run) (counted : Counted) (sys : SystemView) (budgets : List ℕ) (events : List Event)
+    (n : ℕ) (rows : Rows)
     → AwaitsSwitch counted sys budgets events n c.args.event rows c.args.last c.args.self.now
     → StandsSo sys events n c.in-Some.v c.before_run.result
 stands c counted sys budgets events n rows waits =
