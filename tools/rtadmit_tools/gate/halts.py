@@ -20,9 +20,9 @@ from fractions import Fraction
 from .. import comparing
 from ..comparing import SCHEDS, compare, core, need, part, task, tree
 from ..host import expose
-from . import responses, tallies
+from . import responses, schedules, tallies
 from .isolations import moved
-from .schedules import Job, Vcpu
+from .schedules import Job
 
 SMALL, RUNS, FEW = 120, 300, 10
 
@@ -113,51 +113,32 @@ def small_guests(seed, count):
 
 
 # Runs of hosts whose guests halt
-class Guest(Vcpu):
-    """A VCPU, and the jobs of the guest on it, which blocks where none is pending, and at some such slots not at once."""
+class Guest:
+    """The jobs of a guest, which blocks where none is pending, and at some such slots not at once."""
 
-    def __init__(self, place, told, begins, slots, rng):
-        super().__init__(place, told)
-        self.core, self.sched, self.begins, self.rng, self.is_late = told["parent"], told["sched"], begins, rng, False
-        self.eager, self.jobs, self.waiting = rng.choice((1, 1, 0.5)), [], []
+    def __init__(self, told, begins, slots, rng):
+        self.name, self.sched, self.begins, self.rng, self.is_late = told["name"], told["sched"], begins, rng, False
+        self.eager, self.blocked, self.jobs, self.waiting = rng.choice((1, 1, 0.5)), False, [], []
         for number, of in enumerate(told["task"]):
             arrival = begins + rng.choice((0, rng.randint(0, of["period"])))
             while arrival < slots:
-                delay = rng.randint(0, of.get("jitter") or 0)
+                delay = rng.randint(0, of["jitter"])
                 self.jobs.append(Job(number, of, arrival + delay, rng.choice((of["work"], rng.randint(1, of["work"]))), delay))
                 arrival += of["period"] + rng.choice((0, 0, rng.randint(0, of["period"])))
         self.jobs.sort(key=lambda job: -job.release)
 
     def turn(self, x):
-        """What the guest does at a slot, or None; and the job that goes first in it is kept."""
+        """What the guest does at a slot, or None."""
         self.waiting = [job for job in self.waiting if job.got < job.work]
         while self.jobs and self.jobs[-1].release <= x:
             self.waiting.append(self.jobs.pop())
         self.is_late |= any(job.due <= x for job in self.waiting)
-        self.first = min(self.waiting, key=lambda job: job.goes(self.sched), default=None)
-        was, is_started = self.blocked, self.start is not None
-        if x == self.begins:
-            self.start = x
-            return "start"
-        self.blocked = is_started and not self.waiting and (was or self.rng.random() < self.eager)
-        return None if self.blocked == was else "block" if self.blocked else "wake"
+        was, self.blocked = self.blocked, x > self.begins and not self.waiting and (self.blocked or self.rng.random() < self.eager)
+        return "start" if x == self.begins else None if self.blocked == was else "block" if self.blocked else "wake"
 
-
-def run_halting(guests, slots):
-    """The rows of the workload of a run, and who has its core when, by name and slot."""
-    rows, held = [], []
-    for x in range(slots):
-        rows += [(x, guest.name, what) for guest in guests if (what := guest.turn(x))]
-        for guest in guests:
-            guest.begin(x)
-        for name in {guest.core for guest in guests}:
-            holder = min((guest for guest in guests if guest.core == name and guest.may()), key=lambda guest: guest.goes(x), default=None)
-            if holder:
-                holder.had += 1
-                held.append((holder.name, x))
-                if holder.first:
-                    holder.first.got += 1
-    return rows, held
+    def ran(self):
+        for job in sorted(self.waiting, key=lambda job: job.goes(self.sched))[:1]:
+            job.got += 1
 
 
 def over_runs(room, made):
@@ -165,24 +146,27 @@ def over_runs(room, made):
     budgets, kept = kept_of(room, system)
     if budgets is None:
         return ["not admitted"]
-    rng = random.Random(seed)
+    rng, rows = random.Random(seed), []
     given = tree(system["core"], [of | {"budget": budgets[of["name"]]} for of in system["part"]])
-    guests = [Guest(place, of, begins, slots, rng) for place, (of, begins) in enumerate(zip(given["part"], starts))]
-    rows, held = run_halting(guests, slots)
-    room.write("workload.csv", "".join(["at,vcpu,what\n", *(f"{at},{name},{what}\n" for at, name, what in rows)]))
-    trace = room.want(0, "rtds", room.write("system.toml", given), "workload.csv", slots)
-    seen = tallies.rows_of(trace)
-    ran = {(of.name, x) for of in guests for since, to in tallies.watched(seen, of.core, of.name)[1] for x in range(since, to)}
-    need(ran == set(held), "the run of `rtds` is not the one that is made here")
+    guests = {of["name"]: Guest(of, begins, slots, rng) for of, begins in zip(given["part"], starts)}
+
+    def turns(x):
+        here = [(name, what) for name, guest in guests.items() if (what := guest.turn(x))]
+        rows.extend(f"{x},{name},{what}\n" for name, what in here)
+        return here
+
+    trace = schedules.run_rtds(given, turns, slots, lambda name: guests[name].ran())
+    room.write("workload.csv", "".join(["at,vcpu,what\n", *rows]))
+    told = room.want(0, "rtds", room.write("system.toml", given), "workload.csv", slots)
+    need(told == trace, f"the run of `rtds` is not the one that is made here:\n{trace}")
     tallies.stolen_as_counted(room, ((room.folder / "system.toml").read_text(), trace))
     denied, short = ({line["name"]: line[key] for line in room.run(command, "system.toml", "trace.csv").told("vcpu")}
                      for command, key in (("steal", "denied"), ("tally", "short")))
     met = []
-    for guest in guests:
-        how = kept[guest.name].how
-        bad = [what for what, is_so in (("late", guest.is_late), ("denied", denied[guest.name]), ("short", short[guest.name])) if is_so]
-        need(how == "block" or not bad, f"{guest.name} is told as {kept[guest.name]}, and is {' and '.join(bad)}")
-        met += [how, *(f"{what} where it is exposed" for what in bad)]
+    for name, guest in guests.items():
+        bad = [what for what, is_so in (("late", guest.is_late), ("denied", denied[name]), ("short", short[name])) if is_so]
+        need(kept[name].how == "block" or not bad, f"{name} is told as {kept[name]}, and is {' and '.join(bad)}")
+        met += [kept[name].how, *(f"{what} where it is exposed" for what in bad)]
     return met
 
 

@@ -152,14 +152,15 @@ class Vcpu:
         return self.had // self.budget, x - (x - self.start) % self.period + self.period, self.place
 
 
-def run_rtds(system, rows, slots):
-    """The trace that `rtds` is to write. A row is a moment, a VCPU and what it does."""
+def run_rtds(system, rows, slots, ran=lambda name: None):
+    """The trace that `rtds` is to write. A row is a moment, a VCPU and what it does; in place of rows their VCPUs and words may be found at
+    each moment, by who has had a slot, which is told as it goes on."""
     vcpus = {told["name"]: Vcpu(place, told) for place, told in enumerate(system["part"])}
     on = {node["name"]: [vcpus[told["name"]] for told in system["part"] if told["parent"] == node["name"]] for node in system["core"]}
     core_of = {vcpu.name: name for name, those in on.items() for vcpu in those}
     holders, lines = dict.fromkeys(on), ["at,core,what,vcpu"]
     for x in range(slots):
-        here = [(name, what) for at, name, what in rows if at == x]
+        here = rows(x) if callable(rows) else [(name, what) for at, name, what in rows if at == x]
         for name, holder in holders.items():
             if holder and (holder.name, "block") in here:
                 lines.append(f"{x},{name},stop,")
@@ -177,6 +178,7 @@ def run_rtds(system, rows, slots):
                 holders[name] = first
             if first:
                 first.had += 1
+                ran(first.name)
     return "\n".join([*lines, f"{slots},,end,"]) + "\n"
 
 
