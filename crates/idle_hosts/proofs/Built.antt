@@ -134,12 +134,12 @@ module _ (sys : SystemView) (start : ℕ → ℕ) (wants : ℕ → ℕ → Bool)
       in_order = before (length rows) (omega arith);
       known = vcpu;
       alone = ap is_some (none_below (is_at m x) (row_at rows) (length rows)
-      (λ i l. elim (cases_eq (row_at rows i).vcpu m) [
-        | inr ne ↦ and_left (is_of m (row_at rows i)) ((row_at rows i).at == x) (ne_eqb (row_at rows i).vcpu m ne)
-        | inl e ↦
-            and_right (is_of m (row_at rows i)) ((row_at rows i).at == x)
-            (ne_eqb (row_at rows i).at x (λ q. omega (arith, h.early i l, ap seen e, is.now, q)))
-      ]));
+          (λ i l. elim (cases_eq (row_at rows i).vcpu m) [
+            | inr ne ↦ and_left (is_of m (row_at rows i)) ((row_at rows i).at == x) (ne_eqb (row_at rows i).vcpu m ne)
+            | inl e ↦
+                and_right (is_of m (row_at rows i)) ((row_at rows i).at == x)
+                (ne_eqb (row_at rows i).at x (λ q. omega (arith, h.early i l, ap seen e, is.now, q)))
+          ]));
       in_turn =
           ap (λ (o : Option Wake). may_follow o what) stands
           ∙ change_follows m (is_vcpu sys m) (start m) (wants m) x what some;
@@ -228,9 +228,11 @@ module _ (sys : SystemView) (start : ℕ → ℕ) (wants : ℕ → ℕ → Bool)
 
   vcpus_below : (x : ℕ) → x ≤ LIMIT → ((rows : List Wake) × Built (λ v. x) rows) → (m : ℕ)
       → (more : List Wake) × Built (seen_by x m) more
-  vcpus_below x limit (rows, h) zero =
-      (rows, built_at (λ v. x) (seen_by x 0) rows
-      (λ v. sym (cond-false {A = ℕ} (nat_lt v 0) (suc x) x (le-ltb v 0 (omega arith)))) h)
+  vcpus_below x limit (rows, h) zero = (
+    rows,
+    built_at (λ v. x) (seen_by x 0) rows
+        (λ v. sym (cond-false {A = ℕ} (nat_lt v 0) (suc x) x (le-ltb v 0 (omega arith)))) h,
+  )
   vcpus_below x limit start_rows (suc m) =
       let (rows, h) = vcpus_below x limit start_rows m in
       one_vcpu rows m x h limit (change_told m x) refl

@@ -98,6 +98,21 @@ too_soon_is_not_where_idle : IsBlockedWhereIdle host too_soon 7 0 jobs own_run �
 unfolding last_below too_soon
 too_soon_is_not_where_idle h = busy_at_1 (h.only_idle 1 (lit< tt) (lit< tt) refl)
 
+-- but with no job at all it is idle from its start on, and blocked from the slot behind it
+without_jobs_it_is_where_idle : IsBlockedWhereIdle host too_soon 7 0 [] []
+unfolding last_below too_soon
+without_jobs_it_is_where_idle = record { only_idle = λ x some l b j p. omega (arith, p.is_job); each_idle = each_idle }
+  where
+    each_idle : (x : ℕ) → 0 < x → 4 + x < 7 → IsIdleAt host [] [] 0 x → is_blocked_at too_soon 0 (4 + x) ≡ true
+    each_idle zero some l idle = absurd (omega arith)
+    each_idle (suc zero) some l idle = refl
+    each_idle (suc (suc zero)) some l idle = refl
+    each_idle (suc (suc (suc x))) some l idle = absurd (omega (arith, l))
+
+idle_in_the_slot_of_its_start_but_awake : IsIdleAt host [] [] 0 0 × (is_blocked_at too_soon 0 4 ≡ false)
+unfolding last_below too_soon
+idle_in_the_slot_of_its_start_but_awake = ((λ j p. omega (arith, p.is_job)), refl)
+
 -- never blocked, as at 6 with nothing to do
 never : List Wake
 never = row 4 Start ∷ []
