@@ -1,6 +1,6 @@
--- A trace has one finding of stolen time and one tally of it of each VCPU; where no period is denied,
--- the kept periods are all that end by the end of the trace.
-use Rattle.std.proofs.Common.{◌≡◌, ℕ, ◌+◌, ◌<◌, ◌≤◌, List, length, Option, Some, None, refl, sym, ◌∙◌, ap, subst, arith, inl, inr}
+-- A trace has one finding of stolen time and one tally of it of each VCPU. Where no period is
+-- denied, the kept ones are all that end by the end of the trace.
+use Rattle.std.proofs.Common.{◌≡◌, ℕ, ◌+◌, ◌<◌, List, length, Option, sym, ◌∙◌, ap, subst, arith, inl, inr}
 use Rattle.std.proofs.lemmas.Bool.{cases_lt}
 use Rattle.std.proofs.lemmas.List.{ext_get_or}
 use Rattle.std.proofs.lemmas.Option.{same_Some}
@@ -9,13 +9,13 @@ use Rattle.slot_model.proofs.Sums.{sum_below-same}
 use Rattle.tree_model.specs.View.{SystemView}
 use Rattle.tree_model.specs.System.{IsSystem}
 use Rattle.trace_file.specs.declared.event.Event.{Event}
-use Rattle.trace_file.specs.Events.{start_of, end_of}
+use Rattle.trace_file.specs.Events.{start_of}
 use Rattle.trace_file.specs.Periods.{period_of, budget_of, begins, HasPeriod}
 use Rattle.auditor.specs.declared.counted.Counted.TheVariants.{Stolen}
 use Rattle.auditor.specs.declared.steal.StealFinding.{StealFinding}
 use Rattle.auditor.specs.declared.steal.StealFinding.TheVariants.{Yes, Denied}
 use Rattle.auditor.specs.declared.steal.StealTally.{StealTally}
-use Rattle.auditor.specs.Steal.{stolen_of, IsDenied, IsKept, NoneDenied, ended_of, ended_periods, FoundDenied, IsStealFinding, IsTimeStolen, IsStealTally, no_steal_tally, steal_tally_at, AreStealTallies}
+use Rattle.auditor.specs.Steal.{stolen_of, IsKept, NoneDenied, ended_of, ended_periods, FoundDenied, IsStealFinding, IsStealTally, no_steal_tally, steal_tally_at, AreStealTallies}
 use Rattle.auditor.specs.inner.Counting.{IsJudgedBy}
 use Rattle.auditor.proofs.Judging.{judged_is, judged_stolen}
 use Rattle.auditor.proofs.OneFinding.{same_time}
