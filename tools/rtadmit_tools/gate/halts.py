@@ -6,10 +6,9 @@ pending, and the others start, block and wake as they like. No formula and no wo
 guest that is isolated is late, however ties are broken; nor of one that is exposed by ties, where of periods that end at once the first
 in the file goes first.
 
-Random runs: a host of one or two cores whose guests halt where they have nothing to do, with budgets that are computed or greater ones,
-some with extra time, and a run of it by a few lines that stand here. `rtds` over the workload of that run makes the same run. No job of an
-isolated guest is late in it, and in its trace none of its periods is denied and none is short, as `steal` and `tally` say, which is what
-`tallies` counts.
+Random runs: a host of one or two cores with the least budgets, some with extra time, whose guests halt where they have nothing to do, and
+its run slot by slot, by the lines of `schedules`. `rtds` over the workload of that run makes the same one. No job of an isolated guest is
+late in it, and none of its periods is denied or short, as `steal`, which tells what `tallies` counts, and `tally` say.
 
 Ends with 1 where something does not hold, and where so few guests were isolated, or of those that are exposed so few were late, that this
 would show little."""
@@ -88,13 +87,15 @@ def small(room, made):
     tables = [task(of.name, of.period, of.work, deadline=of.deadline, jitter=of.jitter) for of in tasks]
     leaf = part("leaf", "c", sched, period, None, tables)
     alone, _ = kept_of(room, tree([core("c")], [leaf]))
-    left = alone and 1 - Fraction(alone["leaf"], period)
-    parts = [part(f"v{at}", "c", "edf", of, max(1, int(left * of / len(periods)) - less), [task("t", 1000, 1)])
-             for at, of in enumerate(periods)] if alone else []
-    budgets, kept = kept_of(room, tree([core("c")], [*parts[:place], leaf, *parts[place:]]))
-    if not (alone and budgets):
+    if alone is None:
         return ["not admitted"]
-    how, vcpus = kept["leaf"].how, [(of["period"], budgets[of["name"]]) for of in (*parts[:place], leaf, *parts[place:])]
+    share = (1 - Fraction(alone["leaf"], period)) / len(periods)
+    parts = [part(f"v{at}", "c", "edf", of, max(1, int(share * of) - less), [task("t", 1000, 1)]) for at, of in enumerate(periods)]
+    parts.insert(place, leaf)
+    budgets, kept = kept_of(room, tree([core("c")], parts))
+    if budgets is None:
+        return ["not admitted"]
+    how, vcpus = kept["leaf"].how, [(of["period"], budgets[of["name"]]) for of in parts]
     late = can_be_late(vcpus, place, sched, tasks, how != "isolated")
     need(how == "block" or not late, f"leaf is told as {kept['leaf']}, and a job of it can be late")
     return [how] + ["late where it is exposed"] * late
