@@ -10,7 +10,7 @@ use Rattle.auditor.specs.declared.finding.Finding.TheVariants.{Yes, Short, Over}
 use Rattle.auditor.specs.Finding.{FoundAt, IsFinding}
 
 -- periods that begin at one moment are one period
-same_time : (runs : ℕ → Bool) (period f end k j : ℕ) → begins period f k ≡ begins period f j
+pub same_time : (runs : ℕ → Bool) (period f end k j : ℕ) → begins period f k ≡ begins period f j
     → time_got runs period f end k ≡ time_got runs period f end j
 same_time runs period f end k j e =
     let next : begins period f (suc k) ≡ begins period f (suc j) = omega (arith, e) in

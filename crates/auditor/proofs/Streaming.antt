@@ -22,7 +22,8 @@ use Rattle.auditor.specs.declared.watches.Watches.{Watches}
 use Rattle.auditor.specs.inner.Watches.{AreWatched, AwaitsEvent, HaveWatched}
 use Rattle.auditor.specs.Pieces.{Behind, HasAudited, HasSeen}
 
-pub awaits_more : (counted : Counted) (sys : SystemView) (budgets : List ℕ) (events : List Event) (e : Event) (more : List Event)
+pub awaits_more : (counted : Counted) (sys : SystemView) (budgets : List ℕ) (events : List Event) (e : Event)
+    (more : List Event)
     (rows : Rows) (s : Watches) → RowsKeep sys (events ++ e ∷ more) (length (events ++ e ∷ more))
     → IsAfter events (length events) rows → Behind counted sys budgets events s
     → AwaitsEvent counted sys budgets (events ++ e ∷ more) (length events) e rows s
@@ -36,9 +37,11 @@ awaits_more counted sys budgets events e more rows s keep after behind = record 
   watched = behind (e ∷ more) keep;
 }
 
-pub behind_next : (counted : Counted) (sys : SystemView) (budgets : List ℕ) (events : List Event) (e : Event) (rows : Rows)
+pub behind_next : (counted : Counted) (sys : SystemView) (budgets : List ℕ) (events : List Event) (e : Event)
+    (rows : Rows)
     (old new : Watches) → IsAfter events (length events) rows → Behind counted sys budgets events old
-    → ((xs : List Event) (n : ℕ) → AwaitsEvent counted sys budgets xs n e rows old → AreWatched counted sys budgets xs (n + 1) new)
+    → ((xs : List Event) (n : ℕ) → AwaitsEvent counted sys budgets xs n e rows old → AreWatched counted sys budgets xs
+    (n + 1) new)
     → Behind counted sys budgets (events ++ e ∷ []) new
 behind_next counted sys budgets events e rows old new after behind taken = λ more keep.
     let one : (events ++ e ∷ []) ++ more ≡ events ++ e ∷ more = append_assoc events (e ∷ []) more in
@@ -47,16 +50,19 @@ behind_next counted sys budgets events e rows old new after behind taken = λ mo
     let count : length events + 1 ≡ length (events ++ e ∷ []) = sym (length-append events (e ∷ [])) in
     subst (λ (z : List Event). AreWatched counted sys budgets z (length (events ++ e ∷ [])) new) (sym one)
     (subst (λ (n : ℕ). AreWatched counted sys budgets (events ++ e ∷ more) n new) count
-    (taken (events ++ e ∷ more) (length events) (awaits_more counted sys budgets events e more rows old keeps after behind)))
+    (taken (events ++ e ∷ more) (length events)
+    (awaits_more counted sys budgets events e more rows old keeps after behind)))
 
-pub behind_all : (counted : Counted) (sys : SystemView) (budgets : List ℕ) (events : List Event) (s : Watches) → Behind counted sys budgets events s
+pub behind_all : (counted : Counted) (sys : SystemView) (budgets : List ℕ) (events : List Event) (s : Watches)
+    → Behind counted sys budgets events s
     → RowsKeep sys events (length events) → AreWatched counted sys budgets events (length events) s
 behind_all counted sys budgets events s behind keep =
     subst (λ (z : List Event). AreWatched counted sys budgets z (length events) s) (append-nil events)
     (behind [] (subst (λ (z : List Event). RowsKeep sys z (length z)) (sym (append-nil events)) keep))
 
 -- behind a piece more
-pub audited_on : {T E : Type 0} (r : Result T E) (counted : Counted) (sys : SystemView) (budgets text more : List ℕ) (old new : Audit)
+pub audited_on : {T E : Type 0} (r : Result T E) (counted : Counted) (sys : SystemView) (budgets text more : List ℕ)
+    (old new : Audit)
     → new.sys.now ≡ old.sys.now → (h : HasAudited counted sys budgets text old)
     → OnOk r (IsFedTrace HasSeen sys h.start more new.feed) → OnOk r (HasAudited counted sys budgets more new)
 audited_on (Ok x) counted sys budgets text more old new same h fed = record {

@@ -20,7 +20,7 @@ use Rattle.auditor.specs.Tally.{IsJudged, IsTally}
 use Rattle.vcpu_watch.proofs.Tallying.{count_true}
 use Rattle.auditor.proofs.OneTally.{one_tally}
 
-abbrev host : SystemView
+abbrev pub host : SystemView
 host = record {
   cores = record { name = 99 ∷ []; sched = Edf; supply = None } ∷ [];
   parts =

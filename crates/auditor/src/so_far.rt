@@ -63,15 +63,14 @@ impl SoFar {
     pub fn steal_finding(self) -> StealFinding
         ensures { result ≡ denied_of self.periods self.first }
     {
-        match self.first {
+        let SoFar { periods, first } = self;
+        match first {
             Some(found) => StealFinding::Denied {
                 vcpu: found.vcpu,
                 from: found.broken.from,
                 stolen: found.broken.got,
             },
-            None => StealFinding::Yes {
-                periods: self.periods,
-            },
+            None => StealFinding::Yes { periods },
         }
     }
 }

@@ -2,7 +2,7 @@ ghost use Rattle.std.specs.Prelude.{◌≤◌, length};
 ghost use Rattle.tree_model.specs.Plans.{IsPlan};
 
 use crate::helpers::{HOST, MEMORY, planned, system_of};
-use auditor::{Audit, Finding, Tallied, Tally, audit};
+use auditor::{Audit, Counted, Finding, Tallied, Tally, audit};
 use std::alloc::{AllocError, Global};
 use std::process::Abort;
 use trace_file::{TraceCheck, TraceFault, read_trace};
@@ -58,7 +58,7 @@ fn found_in_two(
     requires plan { IsPlan sys.now plan.now }
     requires within { at ≤ length text.now }
 {
-    let mut audit = Audit::new(alloc, sys, plan)?;
+    let mut audit = Audit::new(alloc, sys, plan, Counted::Core)?;
     for piece in [&text[..at], &text[at..]] {
         audit.take(piece)?;
     }
@@ -132,7 +132,7 @@ fn tallied(
 ) -> Result<Result<Tallied, TraceFault>, AllocError>
     requires { IsPlan sys.now plan.now }
 {
-    let mut audit = Audit::new(alloc, sys, plan)?;
+    let mut audit = Audit::new(alloc, sys, plan, Counted::Core)?;
     audit.take(text)?;
     Ok(audit.finish_tallied(alloc))
 }

@@ -1,5 +1,6 @@
 use Rattle.std.proofs.Common.{◌≡◌, ◌<◌, ℕ, List, length}
 use Rattle.trace_file.specs.declared.event.Event.{Event}
+use Rattle.auditor.specs.declared.counted.Counted.TheVariants.{Core}
 use Rattle.auditor.specs.Tally.{IsTally, tally_at}
 use Rattle.auditor.specs.inner.Watches.{AreAtEnd}
 use Rattle.auditor.proofs.SoFar.{IsSoFar}
@@ -9,7 +10,7 @@ use Rattle.auditor.proofs.verdict.tally_all.Given as goal
 abbrev pub invariant-loop-v : goal.invariant-loop-v
 invariant-loop-v l = record {
   so_many : length l.vcpus.items ≡ l.v;
-  each : (budgets : List ℕ) (events : List Event) → AreAtEnd l.sys budgets events l.rows l.watches
+  each : (budgets : List ℕ) (events : List Event) → AreAtEnd Core l.sys budgets events l.rows l.watches
       → (u : ℕ) → u < l.v → IsTally l.sys budgets events u (tally_at l.vcpus.items u);
-  so_far : IsSoFar l.sys l.rows l.watches l.v l.so_far;
+  so_far : IsSoFar Core l.sys l.rows l.watches l.v l.so_far;
 }
