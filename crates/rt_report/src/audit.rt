@@ -43,7 +43,7 @@ pub fn yes_text(alloc: Global, periods: u64) -> Result<Vec<u8>, AllocError>
 pub fn budget_of(sys: &System, plan: &Plan, vcpu: u32) -> u64
     requires plan { IsPlan sys.now plan.now }
     requires part { vcpu < length sys.now.parts }
-    ensures { result ≡ budget_of plan.now vcpu }
+    ensures is { result ≡ budget_of plan.now vcpu }
     ensures in_period { result ≤ period_of sys.now vcpu }
 {
     plan.budgets()[vcpu as usize] * 1000
