@@ -1,5 +1,5 @@
 -- What `isolate` answers: one thing, its statuses, and what it means.
-use Rattle.std.proofs.Common.{◌≡◌, ℕ, ◌<◌, Bool, true, false, cond, List, length, refl, sym, ◌∙◌, subst, inl, inr, ltb-true}
+use Rattle.std.proofs.Common.{◌≡◌, ℕ, ◌<◌, Bool, true, false, cond, List, length, get_or, refl, sym, ◌∙◌, subst, inl, inr, ltb-true}
 use Rattle.std.specs.Prelude.{nat_lt}
 use Rattle.std.proofs.lemmas.Bool.{and_parts, both_ways}
 use Rattle.tree_model.specs.View.{SystemView}
@@ -16,7 +16,7 @@ use Rattle.isolation.specs.declared.isolation.Isolation.{Isolation}
 use Rattle.isolation.specs.declared.isolation.Isolation.TheVariants.{Isolated, ByTies, ByBlock}
 use Rattle.isolation.specs.declared.vcpus.PartIsolation.{PartIsolation}
 use Rattle.isolation.specs.Answer.{IsIsolation, Means, MeansInTrace}
-use Rattle.isolation.specs.Answers.{own_core, are_isolated}
+use Rattle.isolation.specs.Answers.{own_core, IsIsolationOf, are_isolated}
 use Rattle.isolation.proofs.Exposed.{means, means_in_trace}
 use Rattle.isolation.specs.Demand.{IsIsolatedBy}
 use Rattle.rtds_model.specs.Demand.{later}
@@ -29,6 +29,7 @@ use Rattle.isolation.proofs.Sums.{fits_shortest, one_list_of_budgets}
 use Rattle.isolation.proofs.Fits.{isolated_where_short}
 use Rattle.isolated_guests.specs.Spared.{IsSparedInTraces}
 use Rattle.isolated_guests.proofs.InTrace.{isolated_are_spared_in_traces}
+use Rattle.isolated_guests.specs.Answered.{LineKeeps}
 use Rattle.isolated_guests.proofs.Answered.{lines_keep, yes_keeps}
 use Rattle.idle_hosts.proofs.Hosts.{idle_hosts_exist}
 use Rattle.compose_tree.proofs.Sound.{admitted_keeping}
@@ -47,13 +48,16 @@ use Rattle.command_frame.proofs.CommandLaws.{CommandLaws}
 use Rattle.command_frame.proofs.OneFile.{ending_laws}
 use Rattle.trace_commands.proofs.Laws.Rtds.{one_other, servers_fit}
 
-same_lists : (a b : List PartIsolation) (c d : List CoreBudgets) → a ≡ b → c ≡ d
-    → Path (List PartIsolation × List CoreBudgets) (a, c) (b, d)
+both : List PartIsolation → List CoreBudgets → List PartIsolation × List CoreBudgets
+both rows cores = (rows, cores)
+
+same_lists : (a b : List PartIsolation) (c d : List CoreBudgets) → a ≡ b → c ≡ d → both a c ≡ both b d
 same_lists a b c d rows cores = rw (rows, cores) refl
 
 -- there is one list of what parts keep and one of cores, or one first core that is not full under
 -- earliest deadline first
 isolating_decided : (sys : SystemView) (budgets : List ℕ) → IsPlan sys budgets → IsDecided (isolating sys budgets)
+unfolding both
 isolating_decided sys budgets plan = record {
   one_value = λ x y p q. same_lists x.0 y.0 x.1 y.1
       (one_list_of_isolations sys budgets plan x.0 y.0 p.isolations q.isolations)
@@ -137,51 +141,58 @@ core_means sys budgets plan row is =
     let fits = fits_shortest sys budgets row is in
     (λ few. short.0 (fits.0 few), λ all. fits.1 (short.1 all))
 
--- what an answer means
-tells : (sys : SystemView) → IsSystem sys → (budgets : List ℕ) → Admitted sys budgets → (rows : List PartIsolation)
-    (cores : List CoreBudgets) → IsolatesAll sys budgets rows cores → (text : List ℕ)
-    → text ≡ isolation_text sys rows cores → (b : Bool) → are_isolated rows ≡ b → TellsIsolations sys text b
-tells sys is budgets admitted rows cores h text told b e =
-    let plan : IsPlan sys budgets = assigned_is_plan sys is budgets admitted.assigned in
-    record {
-      budgets = budgets;
-      admitted = admitted;
-      assigned = admitted.assigned;
-      each_node = admitted_keeping sys is budgets admitted;
-      all_rtds = h.all;
-      rows = rows;
-      isolations = h.isolations;
-      means = λ k d l. (
-        part_means sys is budgets admitted h.all _ (each_vcpu sys budgets rows h.isolations k d l) _
-            (h.isolations.each k d l),
-        lines_keep sys budgets _ _ _ is admitted (h.isolations.each k d l),
-        part_spares sys is budgets plan _ (each_vcpu sys budgets rows h.isolations k d l) _
-            (h.isolations.each k d l),
-      );
-      cores = cores;
-      sums = h.sums;
-      where_short = λ k d l. core_means sys budgets plan _ (h.sums.each k d l);
-      all_isolated = e;
-      on_yes = λ yes. yes_keeps sys budgets rows is admitted h.isolations (e ∙ yes);
-      idle_hosts = λ starts n jobs at few legal. idle_hosts_exist sys budgets starts n jobs is at few legal;
-      told = told;
-    }
+-- and that of a part
+row_means : (sys : SystemView) → IsSystem sys → (budgets : List ℕ) → Admitted sys budgets
+    → AllRtds sys (length sys.cores) → (row : PartIsolation) → is_vcpu sys row.part ≡ true
+    → IsIsolationOf sys budgets row
+    → LineMeans sys budgets (own_core sys row.part) row.part row.isolation
+    × LineKeeps sys budgets (own_core sys row.part) row.part row.isolation
+    × LineSpares sys budgets row.part row.isolation
+row_means sys is budgets admitted all row vcpu h = (
+  part_means sys is budgets admitted all row.part vcpu row.isolation h,
+  lines_keep sys budgets (own_core sys row.part) row.part row.isolation is admitted h,
+  part_spares sys is budgets (assigned_is_plan sys is budgets admitted.assigned) row.part vcpu row.isolation h,
+)
 
-told_means : (sys : SystemView) → IsSystem sys → (budgets : List ℕ) → Admitted sys budgets → (rows : List PartIsolation)
-    (cores : List CoreBudgets) → IsolatesAll sys budgets rows cores → (status : Status) (text : List ℕ)
-    → IsToldIsolation sys (rows, cores) status text → IsolateMeans sys status text
-told_means sys is budgets admitted rows cores h status text told =
-    subst (λ (s : Status). IsolateMeans sys s text) (sym told.status_is) (go (are_isolated rows) refl)
+-- what an answer means
+tells : (sys : SystemView) → IsSystem sys → (budgets : List ℕ) → Admitted sys budgets
+    → (lists : List PartIsolation × List CoreBudgets) → IsolatesAll sys budgets lists.0 lists.1 → (text : List ℕ)
+    → text ≡ isolation_text sys lists.0 lists.1 → (b : Bool) → are_isolated lists.0 ≡ b → TellsIsolations sys text b
+tells sys is budgets admitted lists h text told b e = record {
+  budgets = budgets;
+  admitted = admitted;
+  assigned = admitted.assigned;
+  each_node = admitted_keeping sys is budgets admitted;
+  all_rtds = h.all;
+  rows = lists.0;
+  isolations = h.isolations;
+  means = λ k d l. row_means sys is budgets admitted h.all (get_or lists.0 k d)
+      (each_vcpu sys budgets lists.0 h.isolations k d l) (h.isolations.each k d l);
+  cores = lists.1;
+  sums = h.sums;
+  where_short = λ k d l. core_means sys budgets (assigned_is_plan sys is budgets admitted.assigned) (get_or lists.1 k d)
+      (h.sums.each k d l);
+  all_isolated = e;
+  on_yes = λ yes. yes_keeps sys budgets lists.0 is admitted h.isolations (e ∙ yes);
+  idle_hosts = λ starts n jobs at few legal. idle_hosts_exist sys budgets starts n jobs is at few legal;
+  told = told;
+}
+
+told_means : (sys : SystemView) → IsSystem sys → (budgets : List ℕ) → Admitted sys budgets
+    → (lists : List PartIsolation × List CoreBudgets) → IsolatesAll sys budgets lists.0 lists.1 → (status : Status)
+    (text : List ℕ) → IsToldIsolation sys lists status text → IsolateMeans sys status text
+told_means sys is budgets admitted lists h status text told =
+    subst (λ (s : Status). IsolateMeans sys s text) (sym told.status_is) (go (are_isolated lists.0) refl)
   where
-    go : (b : Bool) → are_isolated rows ≡ b → IsolateMeans sys (cond b Yes No) text
-    go true e = tells sys is budgets admitted rows cores h text told.told true e
-    go false e = inr (tells sys is budgets admitted rows cores h text told.told false e)
+    go : (b : Bool) → are_isolated lists.0 ≡ b → IsolateMeans sys (cond b Yes No) text
+    go true e = tells sys is budgets admitted lists h text told.told true e
+    go false e = inr (tells sys is budgets admitted lists h text told.told false e)
 
 isolates_means : (sys : SystemView) → IsSystem sys → (status : Status) (text : List ℕ) → Isolates sys status text
     → IsolateMeans sys status text
 isolates_means sys is status text h = elim h [
   | inl a ↦ elim a.said [
-    | inl given ↦ told_means sys is a.value a.gives given.value.0 given.value.1 given.gives status text given.said
+    | inl given ↦ told_means sys is a.value a.gives given.value given.gives status text given.said
     | inr other ↦ subst (λ (s : Status). IsolateMeans sys s text) (sym other.status_is) tt
   ]
   | inr a ↦

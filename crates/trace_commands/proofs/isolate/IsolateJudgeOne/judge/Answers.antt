@@ -25,14 +25,14 @@ each_core sys budgets rows h k d l =
     (each_place (λ (row : CoreBudgets). row.core) (IsCoreBudgets sys budgets) (has_part sys) (length sys.cores) rows h k
     d l).0
 
-pub isolation_text-requires-parts : goal.isolation_text-requires-parts
-isolation_text-requires-parts c =
+pub isolation_text-requires-clause-parts : goal.isolation_text-requires-clause-parts
+isolation_text-requires-clause-parts c =
     subst (λ (rows : List PartIsolation). All (λ (row : PartIsolation). row.part < length c.args.sys.now.parts) rows)
-    (sym c.deref-rows.ensures.value)
+    (sym c.deref.ensures.value)
     (each_part c.args.sys.now c.in_ok-plan.plan c.in_ok-rows.rows.items c.in_ok-rows.ensures)
 
-pub isolation_text-requires-cores : goal.isolation_text-requires-cores
-isolation_text-requires-cores c =
+pub isolation_text-requires-clause-cores : goal.isolation_text-requires-clause-cores
+isolation_text-requires-clause-cores c =
     subst (λ (rows : List CoreBudgets). All (λ (row : CoreBudgets). row.core < length c.args.sys.now.cores) rows)
-    (sym c.deref-cores.ensures.value)
+    (sym c.deref-2.ensures.value)
     (each_core c.args.sys.now c.in_ok-plan.plan c.in_ok-cores.cores.items c.in_ok-cores.ensures)
