@@ -386,7 +386,8 @@ they_end_with_a_verdict : (file other : List ℕ) (pattern : Pattern) (slots : �
     × ((the_tally file other).EndsAs contents status → IsVerdict status)
     × ((the_steal file other).EndsAs contents status → IsVerdict status)
     × ((the_simulate file other pattern slots).EndsAs contents status → IsVerdict status)
-they_end_with_a_verdict file other pattern slots contents status = (λ ends. ends, λ ends. ends, λ ends. ends, λ ends. ends)
+they_end_with_a_verdict file other pattern slots contents status =
+    (λ ends. ends, λ ends. ends, λ ends. ends, λ ends. ends)
 
 what_refuses_an_isolation : (file : List ℕ) (contents : Contents) → (the_isolate file).EndsAs contents BadFile
     → (sys : SystemView) × IsReadable 1 contents (λ bytes. system_of bytes ≡ Ok sys) × (core : ℕ)
