@@ -64,7 +64,5 @@ pub fn period_line(
         (λ text. text.items ≡ period_line word.now sys.now vcpu from got of) }
 {
     let name = sys.parts()[vcpu as usize].name().as_str();
-    Ok(format!(in alloc;
-        "{word} {name} from_ns={from} got_ns={got} of_ns={of}\n"
-    )?.into_bytes())
+    Ok(format!(in alloc; "{word} {name} from_ns={from} got_ns={got} of_ns={of}\n")?.into_bytes())
 }

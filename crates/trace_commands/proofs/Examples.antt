@@ -26,6 +26,12 @@ use Rattle.auditor.specs.declared.finding.Finding.TheVariants.{Yes as Kept, Shor
 use Rattle.auditor.specs.Finding.{IsFinding}
 use Rattle.auditor.specs.Tally.{AreTallies, tally_at}
 use Rattle.vcpu_watch.specs.declared.tally.Tally.{Tally}
+use Rattle.auditor.specs.declared.steal.StealFinding.{StealFinding}
+use Rattle.auditor.specs.declared.steal.StealFinding.TheVariants.{Yes as KeptAll, Denied as DeniedAt}
+use Rattle.auditor.specs.declared.steal.StealTally.{StealTally}
+use Rattle.auditor.specs.Steal.{IsStealFinding, AreStealTallies, NoneDenied, steal_tally_at}
+use Rattle.rt_report.specs.Steal.{steal_finding_text, steal_lines}
+use Rattle.trace_commands.specs.Steal.{the_steal, steal_status, AllAreSpared, IsToldSteal, LeavesKeep, Steals, TellsSteal}
 use Rattle.isolation.specs.declared.isolation.Isolation.TheVariants.{Isolated, ByTies, ByBlock}
 use Rattle.isolation.specs.declared.vcpus.PartIsolation.{PartIsolation}
 use Rattle.isolation.specs.Demand.{asked}
@@ -280,6 +286,35 @@ what_a_tally_says : (sys : SystemView) (budgets : List ℕ) (events : List Event
 what_a_tally_says sys budgets events status text told =
     (told.finding, told.tallies, told.satisfied, told.found, told.counted, told.told, told.on_yes)
 
+-- and what is said of stolen time: both directions, what it means to guests, and on yes the periods
+-- of all VCPUs
+what_is_said_of_stolen_time : (sys : SystemView) (budgets : List ℕ) (events : List Event) (status : Status)
+    (text : List ℕ) → TellsSteal sys budgets events status text
+    → (finding : StealFinding) × (tallies : List StealTally) × (status ≡ Yes → NoneDenied sys budgets events)
+    × (NoneDenied sys budgets events → status ≡ Yes) × (status ≡ Yes → AllAreSpared sys budgets events)
+    × (AllAreSpared sys budgets events → status ≡ Yes) × (status ≡ Yes → LeavesKeep sys budgets events)
+    × IsStealFinding sys budgets events finding × AreStealTallies sys budgets events tallies
+    × (text ≡ steal_finding_text sys budgets finding ++ steal_lines sys 0 tallies)
+    × (status ≡ Yes → finding ≡ KeptAll (sum_below (λ v. (steal_tally_at tallies v).kept) (length sys.parts)))
+what_is_said_of_stolen_time sys budgets events status text told = (
+  told.finding,
+  (
+    told.tallies,
+    told.only,
+    told.always,
+    told.spared,
+    told.where_spared,
+    told.keeps,
+    told.found,
+    told.counted,
+    told.told,
+    told.on_yes,
+  ),
+)
+
+statuses_of_stolen_time : (steal_status (KeptAll 2) ≡ Yes) × (steal_status (DeniedAt 1 0 3000) ≡ No)
+statuses_of_stolen_time = (refl, refl)
+
 -- faults of a workload and of releases, and of a core that is not full or not under earliest
 -- deadline first
 faults_of_second_files : (sys : SystemView) (bytes : List ℕ) →
@@ -316,11 +351,14 @@ a_trace_with_a_fault Says sys bytes fault status text wrong said =
 
 what_is_said_of_a_trace : (sys : SystemView) (bytes : List ℕ) (fault : TraceFault) (status : Status) (text : List ℕ)
     → IsFileFault sys (rows_of (records_of bytes)) fault
-    → Audits sys bytes status text ⊎ Tallies sys bytes status text
+    → Audits sys bytes status text ⊎ Tallies sys bytes status text ⊎ Steals sys bytes status text
     → (status ≡ BadFile) × (text ≡ fault_text (Trace fault) 2)
 what_is_said_of_a_trace sys bytes fault status text wrong said = elim said [
   | inl audited ↦ a_trace_with_a_fault IsAudited sys bytes fault status text wrong audited
-  | inr tallied ↦ a_trace_with_a_fault IsToldTally sys bytes fault status text wrong tallied
+  | inr others ↦ elim others [
+    | inl tallied ↦ a_trace_with_a_fault IsToldTally sys bytes fault status text wrong tallied
+    | inr stolen ↦ a_trace_with_a_fault IsToldSteal sys bytes fault status text wrong stolen
+  ]
 ]
 
 a_workload_with_a_fault : (slots : ℕ) (sys : SystemView) (bytes : List ℕ) (fault : ReleaseFault) (status : Status)
@@ -384,8 +422,10 @@ files_that_are_judged file other one two sys events short shorter = (
 they_end_with_a_verdict : (file other : List ℕ) (pattern : Pattern) (slots : ℕ) (contents : Contents) (status : Status)
     → ((the_audit file other).EndsAs contents status → IsVerdict status)
     × ((the_tally file other).EndsAs contents status → IsVerdict status)
+    × ((the_steal file other).EndsAs contents status → IsVerdict status)
     × ((the_simulate file other pattern slots).EndsAs contents status → IsVerdict status)
-they_end_with_a_verdict file other pattern slots contents status = (λ ends. ends, λ ends. ends, λ ends. ends)
+they_end_with_a_verdict file other pattern slots contents status =
+    (λ ends. ends, λ ends. ends, λ ends. ends, λ ends. ends)
 
 what_refuses_an_isolation : (file : List ℕ) (contents : Contents) → (the_isolate file).EndsAs contents BadFile
     → (sys : SystemView) × IsReadable 1 contents (λ bytes. system_of bytes ≡ Ok sys) × (core : ℕ)

@@ -76,8 +76,8 @@ still (Ok done) more holds = more holds
 still (Err fault) more holds = tt
 
 -- an audit that goes on, and a check that does while the refusal waits
-pub audits_on : {Fault : Type 0} (result : Result (Unit {0}) Fault) (counted : Counted) (sys : SystemView) (bytes piece budgets : List ℕ)
-    (old new : Audit) (walker : Walker) → walker ≡ Audits budgets old → HasWalked counted sys bytes walker
+pub audits_on : {Fault : Type 0} (result : Result (Unit {0}) Fault) (counted : Counted) (sys : SystemView)
+    (bytes piece budgets : List ℕ)    (old new : Audit) (walker : Walker) → walker ≡ Audits budgets old → HasWalked counted sys bytes walker
     → ((k : Counted) (s : SystemView) (b t : List ℕ) → HasAudited k s b t old
     → OnOk result (HasAudited k s b (t ++ piece) new))
     → OnOk result (HasWalked counted sys (bytes ++ piece) (Audits budgets new))
@@ -86,12 +86,14 @@ audits_on result counted sys bytes piece budgets old new walker is h take =
     still result (λ audited. record { assigned = under.assigned; plan = under.plan; audited = audited })
     (take counted sys budgets bytes under.audited)
 
-pub checking : (counted : Counted) (sys : SystemView) (bytes : List ℕ) (check : TraceCheck) (refused : Ending) (walker : Walker)
-    → walker ≡ Checks check refused → HasWalked counted sys bytes walker → HasChecked sys bytes check × IsWaiting sys refused
+pub checking : (counted : Counted) (sys : SystemView) (bytes : List ℕ) (check : TraceCheck) (refused : Ending)
+    (walker : Walker)
+    → walker ≡ Checks check refused → HasWalked counted sys bytes walker
+    → HasChecked sys bytes check × IsWaiting sys refused
 checking counted sys bytes check refused walker is h = subst (HasWalked counted sys bytes) is h
 
-pub checks_on : {Fault : Type 0} (result : Result (Unit {0}) Fault) (counted : Counted) (sys : SystemView) (bytes piece : List ℕ)
-    (old new : TraceCheck) (refused : Ending) (walker : Walker) → walker ≡ Checks old refused
+pub checks_on : {Fault : Type 0} (result : Result (Unit {0}) Fault) (counted : Counted) (sys : SystemView)
+    (bytes piece : List ℕ)    (old new : TraceCheck) (refused : Ending) (walker : Walker) → walker ≡ Checks old refused
     → HasWalked counted sys bytes walker
     → ((s : SystemView) (t : List ℕ) → HasChecked s t old → OnOk result (HasChecked s (t ++ piece) new))
     → OnOk result (HasWalked counted sys (bytes ++ piece) (Checks new refused))

@@ -64,11 +64,7 @@ pub struct TraceWalk<'s> {
 
 impl<'s> TraceWalk<'s> {
     /// Before the first byte, to count this time.
-    pub fn new(
-        alloc: Global,
-        sys: &'s System,
-        counted: Counted,
-    ) -> Result<TraceWalk<'s>, Ending>
+    pub fn new(alloc: Global, sys: &'s System, counted: Counted) -> Result<TraceWalk<'s>, Ending>
         ensures begun { IfOk result (λ walk. BeginsWalk counted sys.now walk) }
         ensures fresh { IfOk result (λ walk. HasTakenTrace walk walk []) }
         ensures refused { IfErr result (λ stop. stop ≡ NoMemory) }

@@ -18,7 +18,7 @@ const BAD_ROW: &str = "fault=BadRow row=2 file=2\n";
 fn a_read_that_fails_goes_before_a_bad_row(rt: HostRuntime) -> Result<(), Fail> {
     let alloc = rt.alloc();
     let texts = [SHARED, BAD_TRACE];
-    for command in ["audit", "tally"] {
+    for command in ["audit", "tally", "steal"] {
         let words = [command, "first", "second"];
         for bite in [7, 4096] {
             let calls = calls_over(&texts, bite);

@@ -218,6 +218,18 @@ fn of_tally(rt: HostRuntime) -> Result<(), Fail> {
 }
 
 #[test]
+fn of_steal(rt: HostRuntime) -> Result<(), Fail> {
+    let words = ["steal", "first", "second"];
+    all_fail(
+        &rt,
+        rt.alloc(),
+        &words,
+        &[SHARED, SHARED_TRACE],
+        SHARED_STEAL,
+    )
+}
+
+#[test]
 fn of_isolate(rt: HostRuntime) -> Result<(), Fail> {
     let words = ["isolate", "first"];
     let answer = "verdict=yes\nisolated A last=7 of=10\nisolated B last=7 of=10\n\

@@ -50,6 +50,10 @@ pub const SHARED_TALLY: &str = "verdict=yes\nperiods=2\n\
      vcpu A begun=1 judged=1 short=0 over=0 least_ns=6000 most_ns=6000\n\
      vcpu B begun=1 judged=1 short=0 over=0 least_ns=4000 most_ns=4000\n";
 
+pub const SHARED_STEAL: &str = "verdict=yes\nperiods=2\n\
+     vcpu A begun=1 kept=1 denied=0 most_ns=4000\n\
+     vcpu B begun=1 kept=1 denied=0 most_ns=6000\n";
+
 /// Two guests that ask for 6 of 10 slots each.
 pub const SIXES: &str =
     "format = 1\n[[core]]\nname = \"cpu0\"\nsched = \"edf\"\n[[part]]\nname = \"A\"\n\

@@ -1,12 +1,14 @@
 -- What `steal` tells of a trace, and what it means.
 use Rattle.std.proofs.Common.{◌≡◌, ◌⊎◌, ℕ, suc, ◌+◌, ◌<◌, ◌≤◌, min, List, length, refl, sym, ◌∙◌, ap, subst, inl, inr, arith}
+use Rattle.std.proofs.lemmas.Bool.{cases_lt}
 use Rattle.slot_model.specs.Slots.{sum_below}
 use Rattle.tree_model.specs.View.{SystemView}
 use Rattle.tree_model.specs.System.{IsSystem}
 use Rattle.tree_model.specs.Plans.{IsPlan}
 use Rattle.trace_file.specs.declared.event.Event.{Event}
 use Rattle.trace_file.specs.Events.{start_of, end_of}
-use Rattle.trace_file.specs.Periods.{period_of, budget_of, begins}
+use Rattle.trace_file.specs.Periods.{period_of, budget_of, begins, blocked, running}
+use Rattle.halting.specs.Stolen.{is_stolen}
 use Rattle.auditor.specs.declared.steal.StealFinding.{StealFinding}
 use Rattle.auditor.specs.declared.steal.StealFinding.TheVariants.{Yes as Kept, Denied}
 use Rattle.auditor.specs.declared.steal.StealTally.{StealTally}
@@ -26,7 +28,8 @@ use Rattle.trace_commands.proofs.Laws.Traced.{trace_laws}
 one_told : (sys : SystemView) (budgets : List ℕ) (events : List Event) → IsOne (IsToldSteal sys budgets events)
 one_told sys budgets events = λ s t x y p q.
     let same : p.finding ≡ q.finding = one_steal_finding sys budgets events p.finding q.finding p.found q.found in
-    let alike : p.tallies ≡ q.tallies = one_steal_tallies sys budgets events p.tallies q.tallies p.counted q.counted in (
+    let alike : p.tallies ≡ q.tallies
+    = one_steal_tallies sys budgets events p.tallies q.tallies p.counted q.counted in (
       p.status_is ∙ ap steal_status same ∙ sym q.status_is,
       p.told
           ∙ (ap (λ (f : StealFinding). steal_text sys budgets f p.tallies) same
@@ -70,7 +73,8 @@ module _ (sys : SystemView) (budgets : List ℕ) (events : List Event) where
         ]
         | inr behind ↦
             let nothing : stolen_of sys events v f k ≡ 0
-            = between_none _ (begins (period_of sys v) f k) _ (omega (arith, behind, min-le-right {begins (period_of sys v) f (suc k)} {end_of events})) in
+            = between_none (is_stolen (blocked events v) (running sys events v)) (begins (period_of sys v) f k)
+            (min (begins (period_of sys v) f (suc k)) (end_of events)) (omega (arith, behind)) in
             omega (arith, nothing, plan.in_period v part)
       ]
 

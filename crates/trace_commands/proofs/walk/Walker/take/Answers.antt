@@ -8,5 +8,6 @@ returns-in-Audits c counted sys bytes h =
 
 pub returns-in-Checks : goal.returns-in-Checks
 returns-in-Checks c counted sys bytes h =
-    checks_on c.take-in-Checks.result counted sys bytes c.args.piece.now _ c.take-in-Checks.new.self _ _ c.in-Checks.is h
+    checks_on c.take-in-Checks.result counted sys bytes c.args.piece.now _ c.take-in-Checks.new.self _ _
+    c.in-Checks.is h
     c.take-in-Checks.ensures
