@@ -205,7 +205,7 @@ def add_words(parser):
 
 
 def run(given):
-    least = {"isolated": 3 * FEW, "ties": 3, "block": FEW, "late where it is exposed": 2}
+    least = {"isolated": 3 * FEW, "ties": 1, "block": FEW // 2, "late where it is exposed": 1}
     guests, runs = small_guests(given.seed, SMALL * given.number), hosts(given.seed, RUNS * given.number)
     by_all = compare(given, "small guests, by all that can happen", small, guests, least, heavy=True)
     least = {"isolated": RUNS // 2, "block": FEW, "denied where it is exposed": 2}
