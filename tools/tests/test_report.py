@@ -171,7 +171,7 @@ class Pages(Case):
         for said, changes in (
             ("If VCPUs sleep: isolated. Each VCPU keeps its budget, whatever the others do",
              {"isolate": "verdict=yes\nisolated Domain-0-0 last=9000 of=10000\n"}),
-            ("Guests that slept: yes. In no period was so much time stolen that less than the budget was left. Each guest without parts of its own",
+            ("Guests that slept: yes. In no period was so much time stolen that less than the budget was left. Each guest without parts of",
              {"steal": "verdict=yes\nperiods=1\nvcpu A begun=1 kept=1 denied=0 most_ns=0\n"}),
             ("isolate is refused: fault=NotRtds core=c file=1 (st", {"isolate": (3, "fault=NotRtds core=c file=1\n")}),
             ("The recording: no verdict. No period is short or over; 0 were judged", {"audit": yes.replace("2", "0")}),

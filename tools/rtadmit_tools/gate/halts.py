@@ -110,7 +110,8 @@ def small_guests(seed, count):
             period = rng.randint(4, 10)
             deadline = rng.choice((period, rng.randint(4, period)))
             tasks.append((period, deadline, rng.randint(1, deadline // 4), int(rng.random() < 0.2 and deadline > 2)))
-        yield periods, rng.choice((0, 0, 1)), rng.randint(0, len(periods)), rng.randint(2, 5), rng.choice(SCHEDS), responses.tasks_of(*tasks)
+        place, sched = rng.randint(0, len(periods)), rng.choice(SCHEDS)
+        yield periods, rng.choice((0, 0, 1)), place, rng.randint(2, 5), sched, responses.tasks_of(*tasks)
 
 
 # Runs of hosts whose guests halt
@@ -204,7 +205,7 @@ def add_words(parser):
 
 
 def run(given):
-    least = {"isolated": 3 * FEW, "ties": 3, "block": FEW, "late where it is exposed": 2}
+    least = {"isolated": 3 * FEW, "ties": 1, "block": FEW // 2, "late where it is exposed": 1}
     guests, runs = small_guests(given.seed, SMALL * given.number), hosts(given.seed, RUNS * given.number)
     by_all = compare(given, "small guests, by all that can happen", small, guests, least, heavy=True)
     least = {"isolated": RUNS // 2, "block": FEW, "denied where it is exposed": 2}
