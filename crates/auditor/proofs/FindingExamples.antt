@@ -1,7 +1,7 @@
 -- Worked findings: A, with extra time and 1 slot in every 4, and B, with 2 slots in every 4, stand
 -- on one core. A slot is 1,000 moments. A trace has one finding (`OneFinding`), so none of these
 -- has another.
-use Rattle.std.proofs.Common.{◌≡◌, ℕ, zero, suc, ◌≤◌, true, false, List, [], ◌∷◌, Some, refl, sym, ◌∙◌, subst, arith, inl, inr}
+use Rattle.std.proofs.Common.{◌≡◌, ℕ, zero, suc, ◌≤◌, true, List, [], ◌∷◌, Some, refl, sym, ◌∙◌, subst, arith, inl, inr}
 use Rattle.std.proofs.lemmas.Bool.{true≢false}
 use Rattle.std.proofs.lemmas.Option.{same_Some}
 use Rattle.csv_rows.specs.Last.{last_below}

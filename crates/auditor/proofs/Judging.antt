@@ -1,7 +1,7 @@
 -- How many periods of a VCPU are judged, by the time that is counted.
-use Rattle.std.proofs.Common.{◌≡◌, ℕ, suc, ◌+◌, ◌<◌, ◌≤◌, Bool, true, false, ◌&&◌, leb, List, length, Option, Some, None, refl, sym, ◌∙◌, subst, arith, inl, inr, leb-true}
+use Rattle.std.proofs.Common.{◌≡◌, ℕ, suc, ◌<◌, ◌≤◌, Bool, true, false, leb, List, length, Option, Some, None, refl, sym, ◌∙◌, subst, arith, inl, inr, leb-true}
 use Rattle.std.proofs.Math.Nat.{mul-le-mul_left}
-use Rattle.std.proofs.lemmas.Bool.{cases_Bool, and_parts, and_left, false≢true}
+use Rattle.std.proofs.lemmas.Bool.{cases_Bool, and_parts, and_left}
 use Rattle.std.proofs.lemmas.Option.{same_Some, none-some}
 use Rattle.slot_model.specs.Slots.{count_below}
 use Rattle.slot_model.proofs.Counts.{count_same}
@@ -10,14 +10,12 @@ use Rattle.tree_model.specs.System.{IsSystem}
 use Rattle.trace_file.specs.declared.event.Event.{Event}
 use Rattle.trace_file.specs.Events.{start_of, end_of}
 use Rattle.trace_file.specs.Periods.{period_of, begins, is_clear, judged_of}
-use Rattle.vcpu_watch.specs.declared.tally.Tally.{Tally}
 use Rattle.vcpu_watch.specs.Numbers.{IsNumberOf}
 use Rattle.vcpu_watch.proofs.Tallying.{none_has}
 use Rattle.auditor.specs.declared.counted.Counted.{Counted}
 use Rattle.auditor.specs.declared.counted.Counted.TheVariants.{Core, Stolen}
 use Rattle.auditor.specs.Steal.{ended_of}
 use Rattle.auditor.specs.inner.Counting.{excuses, judged_at, IsJudgedBy}
-use Rattle.auditor.specs.inner.First.{IsTallyBy}
 use Rattle.auditor.proofs.OneNumber.{one_number}
 use Rattle.auditor.proofs.Reading.{ends_judged}
 

@@ -1,7 +1,7 @@
 -- There is one number of those that have a property, and one least and greatest of them.
-use Rattle.std.proofs.Common.{◌≡◌, ℕ, zero, suc, ◌+◌, ◌-◌, ◌<◌, ◌≤◌, Bool, true, false, cond, not, ltb, ◌&&◌, Option, Some, None, refl, sym, ◌∙◌, ap, arith, inl, inr}
+use Rattle.std.proofs.Common.{◌≡◌, ℕ, ◌+◌, ◌-◌, ◌<◌, ◌≤◌, Bool, true, false, cond, not, ltb, ◌&&◌, Option, Some, None, refl, sym, ◌∙◌, ap, arith, inl, inr}
 use Rattle.std.proofs.lemmas.Bool.{cases_Bool, and_parts, and_from, and_left, lt-ltb, le-ltb, ltb-true, false≢true}
-use Rattle.slot_model.specs.Slots.{sum_below, count_below}
+use Rattle.slot_model.specs.Slots.{count_below}
 use Rattle.slot_model.proofs.Sums.{sum_below-same, sum_below-add}
 use Rattle.slot_model.proofs.Counts.{count_same, count_stretch}
 use Rattle.vcpu_watch.specs.Numbers.{IsNumberOf, IsLeastOf, IsMostOf}

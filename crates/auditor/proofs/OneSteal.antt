@@ -1,24 +1,24 @@
--- A trace has one finding of stolen time and one tally of it of each VCPU; where no period is denied,
--- the kept periods are all that end by the end of the trace.
-use Rattle.std.proofs.Common.{◌≡◌, ℕ, ◌+◌, ◌<◌, ◌≤◌, List, length, Option, Some, None, refl, sym, ◌∙◌, ap, subst, arith, inl, inr}
+-- A trace has one finding of stolen time and one tally of it of each VCPU. Where no period is
+-- denied, the kept ones are all that end by the end of the trace.
+use Rattle.std.proofs.Common.{◌≡◌, ℕ, ◌+◌, ◌<◌, List, length, Option, sym, ◌∙◌, ap, subst, arith, inl, inr}
 use Rattle.std.proofs.lemmas.Bool.{cases_lt}
 use Rattle.std.proofs.lemmas.List.{ext_get_or}
-use Rattle.std.proofs.lemmas.Option.{same_Some}
 use Rattle.slot_model.specs.Slots.{sum_below}
 use Rattle.slot_model.proofs.Sums.{sum_below-same}
 use Rattle.tree_model.specs.View.{SystemView}
 use Rattle.tree_model.specs.System.{IsSystem}
 use Rattle.trace_file.specs.declared.event.Event.{Event}
-use Rattle.trace_file.specs.Events.{start_of, end_of}
-use Rattle.trace_file.specs.Periods.{period_of, budget_of, begins, HasPeriod}
+use Rattle.trace_file.specs.Events.{start_of}
+use Rattle.halting.specs.Stolen.{is_stolen}
+use Rattle.trace_file.specs.Periods.{running, blocked, period_of, budget_of, begins, HasPeriod}
 use Rattle.auditor.specs.declared.counted.Counted.TheVariants.{Stolen}
 use Rattle.auditor.specs.declared.steal.StealFinding.{StealFinding}
 use Rattle.auditor.specs.declared.steal.StealFinding.TheVariants.{Yes, Denied}
 use Rattle.auditor.specs.declared.steal.StealTally.{StealTally}
-use Rattle.auditor.specs.Steal.{stolen_of, IsDenied, IsKept, NoneDenied, ended_of, ended_periods, FoundDenied, IsStealFinding, IsTimeStolen, IsStealTally, no_steal_tally, steal_tally_at, AreStealTallies}
+use Rattle.auditor.specs.Steal.{stolen_of, IsDenied, IsKept, NoneDenied, ended_of, ended_periods, FoundDenied, IsStealFinding, IsStealTally, no_steal_tally, steal_tally_at, AreStealTallies}
 use Rattle.auditor.specs.inner.Counting.{IsJudgedBy}
 use Rattle.auditor.proofs.Judging.{judged_is, judged_stolen}
-use Rattle.auditor.proofs.OneFinding.{same_time}
+use Rattle.auditor.proofs.OneFinding.{one_first, same_counted}
 use Rattle.auditor.proofs.OneNumber.{one_number, one_most, number_same}
 use Rattle.auditor.proofs.Reading.{judged_ends, kept_judged}
 
@@ -30,30 +30,16 @@ same_denied sys budgets events v w from at stolen time a b =
     let k = a.period in
     let g = b.start in
     let j = b.period in
-    let moments : begins (period_of sys v) f k ≡ begins (period_of sys w) g j
-    = omega (arith, a.first.least w g j b.first.denied, b.first.least v f k a.first.denied) in
-    let same : v ≡ w = elim (cases_lt v w) [
-      | inl before ↦ absurd (b.first.first v f k before a.first.denied moments)
-      | inr not_before ↦ elim (cases_lt w v) [
-        | inl behind ↦ absurd (a.first.first w g j behind b.first.denied (sym moments))
-        | inr not_behind ↦ omega (arith, not_before, not_behind)
-      ]
-    ] in
+    let (moments, same)
+    = one_first (IsDenied sys budgets events) (λ u h i. begins (period_of sys u) h i) v f k w g j a.first.denied
+    b.first.denied a.first.least b.first.least a.first.first b.first.first in
     let both : stolen_of sys events v f k ≡ stolen_of sys events w g j =
     subst (λ (z : ℕ). HasPeriod sys events z g j → begins (period_of sys v) f k ≡ begins (period_of sys z) g j
     → stolen_of sys events v f k ≡ stolen_of sys events z g j) same
-    (λ h e. same_stolen v f k g j a.first.denied.period h e)
+    (λ h e. same_counted (is_stolen (blocked events v) (running sys events v)) sys events v f k g j
+    a.first.denied.period h e)
     b.first.denied.period moments in
     (same, a.begins_at ∙ (moments ∙ sym b.begins_at), a.time ∙ (both ∙ sym b.time))
-  where
-    same_stolen : (v f k g j : ℕ) → HasPeriod sys events v f k → HasPeriod sys events v g j
-        → begins (period_of sys v) f k ≡ begins (period_of sys v) g j
-        → stolen_of sys events v f k ≡ stolen_of sys events v g j
-    same_stolen v f k g j a b e =
-        let same : f ≡ g = same_Some f g (sym a.started ∙ b.started) in
-        let at : begins (period_of sys v) g k ≡ begins (period_of sys v) g j
-        = ap (λ (z : ℕ). begins (period_of sys v) z k) (sym same) ∙ e in
-        ap (λ (z : ℕ). stolen_of sys events v z k) same ∙ same_time _ (period_of sys v) g _ k j at
 
 pub one_steal_finding : (sys : SystemView) (budgets : List ℕ) (events : List Event) (a b : StealFinding)
     → IsStealFinding sys budgets events a → IsStealFinding sys budgets events b → a ≡ b

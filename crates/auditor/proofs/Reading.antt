@@ -1,9 +1,7 @@
 -- What broken limits say of a period, as an audit calls it and as a count of stolen time does.
-use Rattle.std.proofs.Common.{◌≡◌, ℕ, suc, ◌+◌, ◌-◌, ◌*◌, ◌<◌, ◌≤◌, Bool, true, false, cond, ◌&&◌, eqb, leb, ltb, List, length, Option, Some, None, refl, sym, ◌∙◌, ap, subst, arith, inl, inr, leb-true}
-use Rattle.std.proofs.Math.Nat.{mul-le-mul_right}
+use Rattle.std.proofs.Common.{◌≡◌, ℕ, suc, ◌+◌, ◌-◌, ◌<◌, ◌≤◌, Bool, true, false, cond, ◌&&◌, eqb, leb, List, Option, Some, None, refl, sym, ◌∙◌, ap, subst, arith, inl, inr, leb-true}
 use Rattle.std.proofs.lemmas.Bool.{cases_lt, and_parts, and_from, lt-ltb, le-ltb, ltb-true, le-leb, false≢true}
 use Rattle.std.proofs.lemmas.Option.{same_Some}
-use Rattle.slot_model.specs.Slots.{count_below}
 use Rattle.slot_model.proofs.MissedJobs.{count_below-none}
 use Rattle.tree_model.specs.View.{SystemView}
 use Rattle.tree_model.specs.System.{part_at}

@@ -3,7 +3,7 @@
 -- first period it sleeps twice, and of the rest just 1,000 moments are stolen. In its second 1,001
 -- are, in its third none, and the end cuts its fourth. A trace has one finding and one tally
 -- (`OneSteal`), so none of these has another.
-use Rattle.std.proofs.Common.{◌≡◌, ℕ, zero, suc, ◌*◌, ◌+◌, ◌<◌, ◌≤◌, Bool, true, false, ltb, leb, List, [], ◌∷◌, Some, None, refl, sym, ◌∙◌, subst, arith, leb-true, inl, inr}
+use Rattle.std.proofs.Common.{◌≡◌, ℕ, zero, suc, ◌+◌, ◌<◌, ◌≤◌, true, ltb, leb, List, [], ◌∷◌, Some, refl, sym, ◌∙◌, subst, arith, leb-true, inl, inr}
 use Rattle.std.proofs.lemmas.Bool.{cases_lt, lt-ltb, le-leb, ltb-true}
 use Rattle.std.proofs.lemmas.Option.{same_Some}
 use Rattle.csv_rows.specs.Last.{last_below}

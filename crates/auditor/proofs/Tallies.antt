@@ -1,6 +1,5 @@
 -- The tally of a VCPU, as an audit counts it and as a count of stolen time does.
-use Rattle.std.proofs.Common.{◌≡◌, ℕ, ◌-◌, ◌≤◌, List, subst, sym, ◌∙◌}
-use Rattle.std.proofs.lemmas.Option.{same_Some}
+use Rattle.std.proofs.Common.{ℕ, ◌-◌, ◌≤◌, List}
 use Rattle.tree_model.specs.View.{SystemView}
 use Rattle.tree_model.specs.Plans.{IsPlan}
 use Rattle.trace_file.specs.declared.event.Event.{Event}

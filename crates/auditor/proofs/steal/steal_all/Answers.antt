@@ -1,6 +1,5 @@
-use Rattle.std.proofs.Common.{◌≡◌, length, ap, arith, subst, sym}
+use Rattle.std.proofs.Common.{◌≡◌, length, ap, arith}
 use Rattle.auditor.specs.declared.counted.Counted.TheVariants.{Stolen}
-use Rattle.auditor.specs.declared.steal.StealTally.{StealTally}
 use Rattle.auditor.specs.Steal.{IsStealTally, no_steal_tally}
 use Rattle.auditor.proofs.SoFar.{none_so_far, one_so_far, denied_all}
 use Rattle.auditor.proofs.Tallies.{few_over, steal_tally}

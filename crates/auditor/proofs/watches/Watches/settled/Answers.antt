@@ -1,4 +1,4 @@
-use Rattle.std.proofs.Common.{Option, length, subst, sym}
+use Rattle.std.proofs.Common.{length, subst, sym}
 use Rattle.auditor.specs.declared.counted.Counted.{Counted}
 use Rattle.auditor.specs.inner.Told.{Watched, watch_at}
 use Rattle.auditor.specs.inner.First.{IsSettled}
