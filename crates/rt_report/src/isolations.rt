@@ -68,11 +68,7 @@ fn push_core(text: &mut String, sys: &System, row: &CoreBudgets) -> Result<(), A
         (string_bytes text.new ≡ string_bytes text.old ++ budgets_line sys.now row.now) }
 {
     names::push_node(text, sys, Place::Core(row.core))?;
-    write!(
-        text,
-        " budgets={} shortest={}\n",
-        row.budgets, row.shortest
-    )
+    write!(text, " budgets={} shortest={}\n", row.budgets, row.shortest)
 }
 
 fn push_isolation(text: &mut String, sys: &System, row: &PartIsolation) -> Result<(), AllocError>

@@ -8,9 +8,12 @@ use Rattle.trace_commands.proofs.walk.TraceWalk.audited.Goals as goal
 
 pub finish-requires : goal.finish-requires
 finish-requires c =
-    let (counted, sys, bytes, h) = c.requires in
-    (sys, bytes, subst (HasChecked sys bytes) (sym c.in-Checks.check-is) 
-    (checking counted sys bytes _ _ _ c.in-Checks.is h).0)
+    let (counted, sys, bytes, h) = c.requires in (
+      sys,
+      bytes,
+      subst (HasChecked sys bytes) (sym c.in-Checks.check-is)
+          (checking counted sys bytes _ _ _ c.in-Checks.is h).0,
+    )
 
 pub returns-in_err-spelled-in-Checks-clause-refused : goal.returns-in_err-spelled-in-Checks-clause-refused
 returns-in_err-spelled-in-Checks-clause-refused c counted sys bytes h =
