@@ -1,4 +1,4 @@
-use Rattle.std.proofs.Common.{ℕ, ◌<◌, List, length, sym, subst, ltb-true}
+use Rattle.std.proofs.Common.{◌≡◌, ℕ, ◌<◌, List, length, sym, subst, inl, ltb-true}
 use Rattle.std.specs.Prelude.{All, nat_lt}
 use Rattle.std.proofs.lemmas.Bool.{and_parts}
 use Rattle.tree_model.specs.View.{SystemView}
@@ -9,6 +9,8 @@ use Rattle.isolation.specs.Answers.{AreIsolations}
 use Rattle.isolation.specs.declared.budgets.CoreBudgets.{CoreBudgets}
 use Rattle.isolation.specs.Budgets.{has_part, IsCoreBudgets, AreCoreBudgets}
 use Rattle.isolation.proofs.Listed.{each_place, each_vcpu}
+use Rattle.rt_report.specs.Isolation.{isolation_text}
+use Rattle.trace_commands.specs.Isolate.{isolation_status}
 use Rattle.trace_commands.proofs.isolate.IsolateJudgeOne.judge.Goals as goal
 
 -- each line is one of a part of the system
@@ -36,3 +38,26 @@ isolation_text-requires-clause-cores c =
     subst (λ (rows : List CoreBudgets). All (λ (row : CoreBudgets). row.core < length c.args.sys.now.cores) rows)
     (sym c.deref-2.ensures.value)
     (each_core c.args.sys.now c.in_ok-plan.plan c.in_ok-cores.cores.items c.in_ok-cores.ensures)
+
+pub returns-clause-answer : goal.returns-clause-answer
+returns-clause-answer c =
+    let sys : SystemView = c.args.sys.now in
+    let rows : List PartIsolation = c.in_ok-rows.rows.items in
+    let cores : List CoreBudgets = c.in_ok-cores.cores.items in
+    let told : c.in_ok-text.text.items ≡ isolation_text sys rows cores
+    = rw (sym c.deref.ensures.value, sym c.deref-2.ensures.value) c.in_ok-text.ensures in
+    let status : c.status_of.result ≡ isolation_status rows
+    = rw (sym c.deref-3.ensures.value) c.status_of.ensures in
+    inl (record {
+      value = c.in_ok-plan.plan;
+      gives = c.in_ok-plan.ensures.admitted;
+      said = inl (record {
+        value = (rows, cores);
+        gives = record {
+          all = c.in_ok-go_by_rtds.ensures.all;
+          isolations = c.in_ok-rows.ensures;
+          sums = c.in_ok-cores.ensures;
+        };
+        said = record { status_is = status; told = told };
+      });
+    })
