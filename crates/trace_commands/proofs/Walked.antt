@@ -77,7 +77,8 @@ still (Err fault) more holds = tt
 
 -- an audit that goes on, and a check that does while the refusal waits
 pub audits_on : {Fault : Type 0} (result : Result (Unit {0}) Fault) (counted : Counted) (sys : SystemView)
-    (bytes piece budgets : List ℕ)    (old new : Audit) (walker : Walker) → walker ≡ Audits budgets old → HasWalked counted sys bytes walker
+    (bytes piece budgets : List ℕ)
+    (old new : Audit) (walker : Walker) → walker ≡ Audits budgets old → HasWalked counted sys bytes walker
     → ((k : Counted) (s : SystemView) (b t : List ℕ) → HasAudited k s b t old
     → OnOk result (HasAudited k s b (t ++ piece) new))
     → OnOk result (HasWalked counted sys (bytes ++ piece) (Audits budgets new))
