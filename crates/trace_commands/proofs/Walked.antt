@@ -94,7 +94,7 @@ pub checking : (counted : Counted) (sys : SystemView) (bytes : List ℕ) (check 
 checking counted sys bytes check refused walker is h = subst (HasWalked counted sys bytes) is h
 
 pub checks_on : {Fault : Type 0} (result : Result (Unit {0}) Fault) (counted : Counted) (sys : SystemView)
-    (bytes piece : List ℕ)    (old new : TraceCheck) (refused : Ending) (walker : Walker) → walker ≡ Checks old refused
+    (bytes piece : List ℕ) (old new : TraceCheck) (refused : Ending) (walker : Walker) → walker ≡ Checks old refused
     → HasWalked counted sys bytes walker
     → ((s : SystemView) (t : List ℕ) → HasChecked s t old → OnOk result (HasChecked s (t ++ piece) new))
     → OnOk result (HasWalked counted sys (bytes ++ piece) (Checks new refused))
