@@ -22,11 +22,11 @@ pub fn audit_text(
     match *a {
         Finding::Yes { periods } => yes_text(alloc, periods),
         Finding::Short { vcpu, from, got } => {
-            let budget = budget_of(sys, plan, vcpu);
+            let (_, budget) = times_of(sys, plan, vcpu);
             period_line(alloc, "verdict=no\nshort", sys, vcpu, from, got, budget)
         }
         Finding::Over { vcpu, from, got } => {
-            let budget = budget_of(sys, plan, vcpu);
+            let (_, budget) = times_of(sys, plan, vcpu);
             period_line(alloc, "verdict=no\nover", sys, vcpu, from, got, budget)
         }
     }
@@ -39,14 +39,16 @@ pub fn yes_text(alloc: Global, periods: u64) -> Result<Vec<u8>, AllocError>
     Ok(format!(in alloc; "verdict=yes\nperiods={periods}\n")?.into_bytes())
 }
 
-/// The budget of a VCPU in nanoseconds.
-pub fn budget_of(sys: &System, plan: &Plan, vcpu: u32) -> u64
+/// The period and the budget of a VCPU in nanoseconds.
+pub fn times_of(sys: &System, plan: &Plan, vcpu: u32) -> (u64, u64)
     requires plan { IsPlan sys.now plan.now }
     requires part { vcpu < length sys.now.parts }
-    ensures is { result ≡ budget_of plan.now vcpu }
-    ensures in_period { result ≤ period_of sys.now vcpu }
+    ensures period { result.0 ≡ period_of sys.now vcpu }
+    ensures budget { result.1 ≡ budget_of plan.now vcpu }
+    ensures in_period { result.1 ≤ result.0 }
 {
-    plan.budgets()[vcpu as usize] * 1000
+    let period = sys.parts()[vcpu as usize].period() * 1000;
+    (period, plan.budgets()[vcpu as usize] * 1000)
 }
 
 /// A period, with the time that was got in it and the time against which that is held.

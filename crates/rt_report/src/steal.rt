@@ -2,7 +2,7 @@ ghost use Rattle.std.specs.Prelude.{◌≡◌, length, IfOk};
 ghost use Rattle.tree_model.specs.Plans.{IsPlan};
 ghost use Rattle.rt_report.specs.Steal.{steal_finding_text, steal_text, IsStealOfPart};
 
-use crate::audit::{budget_of, period_line, yes_text};
+use crate::audit::{period_line, times_of, yes_text};
 use crate::vcpu_lines::{VcpuCounts, push_lines, push_time};
 use auditor::{StealFinding, StealTally, Stolen};
 use std::alloc::{AllocError, Global};
@@ -43,8 +43,8 @@ fn finding_text(
     match finding {
         StealFinding::Yes { periods } => yes_text(alloc, periods),
         StealFinding::Denied { vcpu, from, stolen } => {
-            let period = sys.parts()[vcpu as usize].period() * 1000;
-            let of = period - budget_of(sys, plan, vcpu);
+            let (period, budget) = times_of(sys, plan, vcpu);
+            let of = period - budget;
             period_line(alloc, "verdict=no\nstolen", sys, vcpu, from, stolen, of)
         }
     }

@@ -298,18 +298,16 @@ what_is_said_of_stolen_time : (sys : SystemView) (budgets : List ℕ) (events : 
     × (status ≡ Yes → finding ≡ KeptAll (sum_below (λ v. (steal_tally_at tallies v).kept) (length sys.parts)))
 what_is_said_of_stolen_time sys budgets events status text told = (
   told.finding,
-  (
-    told.tallies,
-    told.only,
-    told.always,
-    told.spared,
-    told.where_spared,
-    told.keeps,
-    told.found,
-    told.counted,
-    told.told,
-    told.on_yes,
-  ),
+  told.tallies,
+  told.only,
+  told.always,
+  told.spared,
+  told.where_spared,
+  told.keeps,
+  told.found,
+  told.counted,
+  told.told,
+  told.on_yes,
 )
 
 statuses_of_stolen_time : (steal_status (KeptAll 2) ≡ Yes) × (steal_status (DeniedAt 1 0 3000) ≡ No)
