@@ -39,15 +39,17 @@ returns-in_err-finding-in-Audit-clause-answer c = λ bytes under.
     rw (err_is c.from_residual.result _ c.from_residual.ensures.1)
     (refused_said c.args.sys.now bytes c.args.command c.in_err-finding-in-Audit.field-0.0
     (unspelled c.args.sys.now bytes c.finish.result
-    (c.finish.ensures.fault c.args.sys.now c.args.plan.now bytes (under_arm c.args.command ToAudit c.args.sys.now bytes c.args.plan.now c.args.audit
-    c.in-Audit.is under).audited) c.in_err-finding-in-Audit.field-0.0
+    (c.finish.ensures.fault c.args.sys.now c.args.plan.now bytes
+    (under_arm c.args.command ToAudit c.args.sys.now bytes c.args.plan.now c.args.audit c.in-Audit.is under).audited)
+    c.in_err-finding-in-Audit.field-0.0
     c.in_err-finding-in-Audit.ensures.refused))
 
 pub audit_text-requires-clause-part : goal.audit_text-requires-clause-part
 audit_text-requires-clause-part c =
     let is = of_value (IsFindingOf c.args.sys.now c.args.plan.now c.requires.0) c.finish.result
     c.in_ok-finding-in-Audit.finding c.in_ok-finding-in-Audit.ensures.value
-    (c.finish.ensures.found c.args.sys.now c.args.plan.now c.requires.0 (under_arm c.args.command ToAudit c.args.sys.now c.requires.0 c.args.plan.now c.args.audit
+    (c.finish.ensures.found c.args.sys.now c.args.plan.now c.requires.0
+    (under_arm c.args.command ToAudit c.args.sys.now c.requires.0 c.args.plan.now c.args.audit
     c.in-Audit.is c.requires.1).audited) in
     told_of_part c.args.sys.now c.args.plan.now is.events c.in_ok-finding-in-Audit.finding is.found
 
@@ -55,12 +57,13 @@ pub returns-in_ok-audit_text-in-Audit-clause-answer : goal.returns-in_ok-audit_t
 returns-in_ok-audit_text-in-Audit-clause-answer c = λ bytes under.
     rw c.in-Audit.is
     (found_said c.args.sys.now bytes c.args.plan.now _ c.in_ok-finding-in-Audit.finding _ _
-    (under_arm c.args.command ToAudit c.args.sys.now bytes c.args.plan.now c.args.audit
-    c.in-Audit.is under)
+   
+    (under_arm c.args.command ToAudit c.args.sys.now bytes c.args.plan.now c.args.audit c.in-Audit.is under)
     (of_value (IsFindingOf c.args.sys.now c.args.plan.now bytes) c.finish.result c.in_ok-finding-in-Audit.finding
     c.in_ok-finding-in-Audit.ensures.value
-    (c.finish.ensures.found c.args.sys.now c.args.plan.now bytes (under_arm c.args.command ToAudit c.args.sys.now bytes c.args.plan.now c.args.audit
-    c.in-Audit.is under).audited)) c.status_of.ensures
+    (c.finish.ensures.found c.args.sys.now c.args.plan.now bytes
+    (under_arm c.args.command ToAudit c.args.sys.now bytes c.args.plan.now c.args.audit c.in-Audit.is under).audited)
+    ) c.status_of.ensures
     c.in_ok-audit_text-in-Audit.ensures)
 
 pub returns-in_err-tallied-in-Tally-clause-answer : goal.returns-in_err-tallied-in-Tally-clause-answer
@@ -68,8 +71,8 @@ returns-in_err-tallied-in-Tally-clause-answer c = λ bytes under.
     rw (err_is c.from_residual-in_err-tallied-in-Tally.result _ c.from_residual-in_err-tallied-in-Tally.ensures.1)
     (refused_said c.args.sys.now bytes c.args.command c.in_err-tallied-in-Tally.field-0.0
     (unspelled c.args.sys.now bytes c.finish_tallied.result
-    (c.finish_tallied.ensures.fault c.args.sys.now c.args.plan.now bytes (under_arm c.args.command ToTally c.args.sys.now bytes c.args.plan.now c.args.audit
-    c.in-Tally.is under).audited)
+    (c.finish_tallied.ensures.fault c.args.sys.now c.args.plan.now bytes
+    (under_arm c.args.command ToTally c.args.sys.now bytes c.args.plan.now c.args.audit c.in-Tally.is under).audited)
     c.in_err-tallied-in-Tally.field-0.0 c.in_err-tallied-in-Tally.ensures.refused))
 
 tallied_of : (c : After-status_of-in-Tally)
@@ -77,7 +80,8 @@ tallied_of : (c : After-status_of-in-Tally)
 tallied_of c =
     of_value (Tallies c.args.sys.now c.args.plan.now c.requires.0) c.finish_tallied.result
     c.in_ok-tallied-in-Tally.tallied c.in_ok-tallied-in-Tally.ensures.value
-    (c.finish_tallied.ensures.tallied c.args.sys.now c.args.plan.now c.requires.0 (under_arm c.args.command ToTally c.args.sys.now c.requires.0 c.args.plan.now c.args.audit
+    (c.finish_tallied.ensures.tallied c.args.sys.now c.args.plan.now c.requires.0
+    (under_arm c.args.command ToTally c.args.sys.now c.requires.0 c.args.plan.now c.args.audit
     c.in-Tally.is c.requires.1).audited)
 
 pub tally_text-requires-clause-part : goal.tally_text-requires-clause-part
@@ -93,12 +97,12 @@ pub returns-in_ok-tally_text-in-Tally-clause-answer : goal.returns-in_ok-tally_t
 returns-in_ok-tally_text-in-Tally-clause-answer c = λ bytes under.
     rw c.in-Tally.is
     (tallied_said c.args.sys.now bytes c.args.plan.now _ c.in_ok-tallied-in-Tally.tallied.finding _ _ _
-    (under_arm c.args.command ToTally c.args.sys.now bytes c.args.plan.now c.args.audit
-    c.in-Tally.is under)
+   
+    (under_arm c.args.command ToTally c.args.sys.now bytes c.args.plan.now c.args.audit c.in-Tally.is under)
     (of_value (Tallies c.args.sys.now c.args.plan.now bytes)
     c.finish_tallied.result c.in_ok-tallied-in-Tally.tallied c.in_ok-tallied-in-Tally.ensures.value
-    (c.finish_tallied.ensures.tallied c.args.sys.now c.args.plan.now bytes (under_arm c.args.command ToTally c.args.sys.now bytes c.args.plan.now c.args.audit
-    c.in-Tally.is under).audited))
+    (c.finish_tallied.ensures.tallied c.args.sys.now c.args.plan.now bytes
+    (under_arm c.args.command ToTally c.args.sys.now bytes c.args.plan.now c.args.audit c.in-Tally.is under).audited))
     c.status_of-in-Tally.ensures c.in_ok-tally_text-in-Tally.ensures)
 
 pub returns-in_err-stolen-in-Steal-clause-answer : goal.returns-in_err-stolen-in-Steal-clause-answer
@@ -106,8 +110,8 @@ returns-in_err-stolen-in-Steal-clause-answer c = λ bytes under.
     rw (err_is c.from_residual-in_err-stolen-in-Steal.result _ c.from_residual-in_err-stolen-in-Steal.ensures.1)
     (refused_said c.args.sys.now bytes c.args.command c.in_err-stolen-in-Steal.field-0.0
     (unspelled c.args.sys.now bytes c.finish_stolen.result
-    (c.finish_stolen.ensures.fault c.args.sys.now c.args.plan.now bytes (under_arm c.args.command ToSteal c.args.sys.now bytes c.args.plan.now c.args.audit
-    c.in-Steal.is under).audited)
+    (c.finish_stolen.ensures.fault c.args.sys.now c.args.plan.now bytes
+    (under_arm c.args.command ToSteal c.args.sys.now bytes c.args.plan.now c.args.audit c.in-Steal.is under).audited)
     c.in_err-stolen-in-Steal.field-0.0 c.in_err-stolen-in-Steal.ensures.refused))
 
 stolen_of : (c : After-steal_status_of)
@@ -115,7 +119,8 @@ stolen_of : (c : After-steal_status_of)
 stolen_of c =
     of_value (Steals c.args.sys.now c.args.plan.now c.requires.0) c.finish_stolen.result
     c.in_ok-stolen-in-Steal.stolen c.in_ok-stolen-in-Steal.ensures.value
-    (c.finish_stolen.ensures.stolen c.args.sys.now c.args.plan.now c.requires.0 (under_arm c.args.command ToSteal c.args.sys.now c.requires.0 c.args.plan.now c.args.audit
+    (c.finish_stolen.ensures.stolen c.args.sys.now c.args.plan.now c.requires.0
+    (under_arm c.args.command ToSteal c.args.sys.now c.requires.0 c.args.plan.now c.args.audit
     c.in-Steal.is c.requires.1).audited)
 
 pub steal_text-requires-clause-part : goal.steal_text-requires-clause-part
@@ -131,10 +136,10 @@ pub returns-in_ok-steal_text-in-Steal-clause-answer : goal.returns-in_ok-steal_t
 returns-in_ok-steal_text-in-Steal-clause-answer c = λ bytes under.
     rw c.in-Steal.is
     (stolen_said c.args.sys.now bytes c.args.plan.now _ c.in_ok-stolen-in-Steal.stolen.finding _ _ _
-    (under_arm c.args.command ToSteal c.args.sys.now bytes c.args.plan.now c.args.audit
-    c.in-Steal.is under)
+   
+    (under_arm c.args.command ToSteal c.args.sys.now bytes c.args.plan.now c.args.audit c.in-Steal.is under)
     (of_value (Steals c.args.sys.now c.args.plan.now bytes)
     c.finish_stolen.result c.in_ok-stolen-in-Steal.stolen c.in_ok-stolen-in-Steal.ensures.value
-    (c.finish_stolen.ensures.stolen c.args.sys.now c.args.plan.now bytes (under_arm c.args.command ToSteal c.args.sys.now bytes c.args.plan.now c.args.audit
-    c.in-Steal.is under).audited))
+    (c.finish_stolen.ensures.stolen c.args.sys.now c.args.plan.now bytes
+    (under_arm c.args.command ToSteal c.args.sys.now bytes c.args.plan.now c.args.audit c.in-Steal.is under).audited))
     c.steal_status_of.ensures c.in_ok-steal_text-in-Steal.ensures)
