@@ -57,8 +57,7 @@ pub returns-in_ok-audit_text-in-Audit-clause-answer : goal.returns-in_ok-audit_t
 returns-in_ok-audit_text-in-Audit-clause-answer c = λ bytes under.
     rw c.in-Audit.is
     (found_said c.args.sys.now bytes c.args.plan.now _ c.in_ok-finding-in-Audit.finding _ _
-    (under_arm c.args.command ToAudit c.args.sys.now bytes c.args.plan.now c.args.audit
-    c.in-Audit.is under)
+    (under_arm c.args.command ToAudit c.args.sys.now bytes c.args.plan.now c.args.audit c.in-Audit.is under)
     (of_value (IsFindingOf c.args.sys.now c.args.plan.now bytes) c.finish.result c.in_ok-finding-in-Audit.finding
     c.in_ok-finding-in-Audit.ensures.value
     (c.finish.ensures.found c.args.sys.now c.args.plan.now bytes
@@ -98,8 +97,7 @@ pub returns-in_ok-tally_text-in-Tally-clause-answer : goal.returns-in_ok-tally_t
 returns-in_ok-tally_text-in-Tally-clause-answer c = λ bytes under.
     rw c.in-Tally.is
     (tallied_said c.args.sys.now bytes c.args.plan.now _ c.in_ok-tallied-in-Tally.tallied.finding _ _ _
-    (under_arm c.args.command ToTally c.args.sys.now bytes c.args.plan.now c.args.audit
-    c.in-Tally.is under)
+    (under_arm c.args.command ToTally c.args.sys.now bytes c.args.plan.now c.args.audit c.in-Tally.is under)
     (of_value (Tallies c.args.sys.now c.args.plan.now bytes)
     c.finish_tallied.result c.in_ok-tallied-in-Tally.tallied c.in_ok-tallied-in-Tally.ensures.value
     (c.finish_tallied.ensures.tallied c.args.sys.now c.args.plan.now bytes
@@ -139,8 +137,7 @@ pub returns-in_ok-steal_text-in-Steal-clause-answer : goal.returns-in_ok-steal_t
 returns-in_ok-steal_text-in-Steal-clause-answer c = λ bytes under.
     rw c.in-Steal.is
     (stolen_said c.args.sys.now bytes c.args.plan.now _ c.in_ok-stolen-in-Steal.stolen.finding _ _ _
-    (under_arm c.args.command ToSteal c.args.sys.now bytes c.args.plan.now c.args.audit
-    c.in-Steal.is under)
+    (under_arm c.args.command ToSteal c.args.sys.now bytes c.args.plan.now c.args.audit c.in-Steal.is under)
     (of_value (Steals c.args.sys.now c.args.plan.now bytes)
     c.finish_stolen.result c.in_ok-stolen-in-Steal.stolen c.in_ok-stolen-in-Steal.ensures.value
     (c.finish_stolen.ensures.stolen c.args.sys.now c.args.plan.now bytes
